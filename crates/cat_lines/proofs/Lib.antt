@@ -1,0 +1,6 @@
+pub mod Cutting
+pub mod Running
+pub mod Sessions
+pub mod Keeping
+pub mod Splitting
+pub mod Replying

@@ -1,0 +1,4 @@
+pub mod Word
+pub mod Lines
+pub mod Runs
+pub mod Session

@@ -1,0 +1,141 @@
+//! The targets of a Location, or the fault that leaves it without any.
+ghost use Rattle.std.specs.Prelude.{◌≡◌, ◌⊎◌, map, option_map, IfOk, IfErr, OnOk, Ok, Err, true, length, ◌≤◌};
+ghost use Rattle.std.specs.List.{list_all};
+ghost use Rattle.cat_tree.specs.View.{data_of};
+ghost use Rattle.cat_target.specs.Resolve.{name_of as the_name};
+ghost use Rattle.cat_target.specs.Targets as spec;
+
+use crate::location::{base_of, is_optional, target_texts, type_of};
+use crate::resolve::name_of;
+use cat_tree::text::Text;
+use cat_tree::tree::Tree;
+use std::alloc::{AllocError, AllocFailed, Global};
+
+const MOST_TARGETS: usize = 1000;
+
+/// A file that a Location points to.
+#[derive(Drop)]
+pub struct Target {
+    /// The name under which the file stands on the shelf: its type, `:` and its target.
+    pub name: Text,
+    /// Whether it is no fault that nothing stands there.
+    pub optional: bool,
+}
+
+/// Why a Location has no targets.
+#[derive(Clone, Copy, Debug, Drop, PartialEq, Eq)]
+pub enum TargetFault {
+    /// It has over 1,000 target texts.
+    TooMany,
+    /// It has a target text, but neither a type of its own nor a base.
+    NoType,
+    /// The text at this place, the first such, has no name. Places count from 0, over `target` and then `targets`.
+    BadTarget(usize),
+    /// Want of memory.
+    NoMemory,
+}
+
+impl From<AllocError> for TargetFault {
+    ghost use Rattle.std.specs.Prelude.{◌≡◌};
+    ghost use Rattle.cat_target.specs.declared.target.TargetFault.TheVariants.{NoMemory};
+
+    ghost from_gives = { λ _ e. e ≡ NoMemory };
+
+    fn from(_refused: AllocError) -> TargetFault {
+        TargetFault::NoMemory
+    }
+}
+
+impl<T: Drop> From<AllocFailed<T>> for TargetFault {
+    ghost use Rattle.std.specs.Prelude.{◌≡◌};
+    ghost use Rattle.cat_target.specs.declared.target.TargetFault.TheVariants.{NoMemory};
+
+    ghost from_gives = { λ _ e. e ≡ NoMemory };
+
+    fn from(_refused: AllocFailed<T>) -> TargetFault {
+        TargetFault::NoMemory
+    }
+}
+
+/// The files that the Location points to, in the order of its texts, each name at its first place only.
+///
+/// The first of these that holds refuses it: `TooMany`, over 1,000 texts; `NoType`, a text but no type; `BadTarget`, a
+/// text without a name. A Location without texts has no targets. Each name may stand on the shelf, and there are at most
+/// 1,000. A field of another form than the schema asks for is passed over.
+#[tactic(auto, unfolding(crate::specs::Targets::targets_of))]
+pub fn targets(alloc: Global, tree: &Tree) -> Result<Vec<Target>, TargetFault>
+    ensures ok { IfOk result (λ v. spec.targets_of (data_of tree.now) ≡ Ok v.items) }
+    ensures err { IfErr result
+        (λ e. (spec.targets_of (data_of tree.now) ≡ Err e) ⊎ (e ≡ TargetFault.NoMemory)) }
+    ensures on_shelf { IfOk result (λ v. list_all spec.is_on_shelf v.items ≡ true) }
+    ensures distinct { IfOk result (λ v. spec.are_distinct (map (λ t. t.name) v.items) ≡ true) }
+    ensures few { IfOk result (λ v. length v.items ≤ 1000) }
+{
+    let texts = target_texts(alloc, tree)?;
+    if texts.len() > MOST_TARGETS {
+        return Err(TargetFault::TooMany);
+    }
+    if texts.is_empty() {
+        return Ok(Vec::new(alloc));
+    }
+    match type_of(tree) {
+        Some(kind) => {
+            let names = names_of(alloc, base_of(tree), kind, texts.as_slice())?;
+            let found = as_targets(alloc, names, is_optional(tree))?;
+            Ok(found)
+        }
+        None => Err(TargetFault::NoType),
+    }
+}
+
+// The name of each text.
+fn names_of(
+    alloc: Global,
+    base: Option<(&str, &str)>,
+    kind: &str,
+    texts: &[&str],
+) -> Result<Vec<Text>, TargetFault>
+    ensures ok { IfOk result (λ v. spec.names_from
+        (the_name (option_map (λ b. (b.0.now, b.1.now)) base.entry) kind.now) 0
+        (map (λ t. t.now) texts.now) ≡ Ok v.items) }
+    ensures err { IfErr result (λ e. (spec.names_from
+        (the_name (option_map (λ b. (b.0.now, b.1.now)) base.entry) kind.now) 0
+        (map (λ t. t.now) texts.now) ≡ Err e) ⊎ (e ≡ TargetFault.NoMemory)) }
+{
+    let mut names = Vec::new(alloc);
+    for (i, text) in texts.iter().enumerate() {
+        match name_of(alloc, base, kind, text)? {
+            Some(name) => names.push(name)?,
+            None => return Err(TargetFault::BadTarget(i)),
+        }
+    }
+    Ok(names)
+}
+
+// A target for each name, at its first place.
+fn as_targets(alloc: Global, names: Vec<Text>, optional: bool) -> Result<Vec<Target>, AllocError>
+    ensures { IfOk result (λ v. v.items ≡ map (spec.target optional) (spec.distinct names.items)) }
+{
+    let mut targets: Vec<Target> = Vec::new(alloc);
+    for name in names {
+        add(&mut targets, name, optional)?;
+    }
+    Ok(targets)
+}
+
+// Adds a target of this name, unless one stands there.
+fn add(targets: &mut Vec<Target>, name: Text, optional: bool) -> Result<(), AllocError>
+    ensures { OnOk result (targets.new.items ≡ spec.with_target optional targets.old.items name) }
+{
+    if stands(targets.as_slice(), &name) {
+        return Ok(());
+    }
+    targets.push(Target { name, optional })?;
+    Ok(())
+}
+
+fn stands(targets: &[Target], name: &Text) -> bool
+    ensures { result ≡ spec.has_name name.now targets.now }
+{
+    targets.iter().any(|t| t.name.as_str() == name.as_str())
+}

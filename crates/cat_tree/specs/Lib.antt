@@ -1,0 +1,10 @@
+pub mod Data
+pub mod Ask
+pub mod Edit
+pub mod Same
+pub mod View
+pub mod Falls
+pub mod Read
+pub mod Seen
+pub mod Text
+pub mod Proper

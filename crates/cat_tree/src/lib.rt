@@ -1,0 +1,23 @@
+//! Trees: the JSON values (RFC 8259) of the catalogue, whose numbers are whole.
+//!
+//! Everything that the catalogue reads, keeps and writes is a tree: descriptors, bodies of mutations,
+//! stored rows, documents and answers. A tree is read by `serde_json` and written with `json`'s
+//! writer.
+//!
+//! The promise: the tree of a text is exactly the reading of `serde_json`, and the text of a tree is
+//! its compact text with the keys of each map in byte order; what is written of a tree with numbers
+//! of 64 bits and at most 127 levels is read as the same tree.
+//!
+//! Contracts see a tree as the data of `specs/Data.antt`, a `Text` as the list of its bytes, and
+//! `Trees` and `Pairs` as lists. What allocates takes the allocator and answers want of memory.
+#![tactic(auto)]
+
+pub mod ask;
+pub mod clone;
+pub mod edit;
+pub mod read;
+#[cfg(test)]
+mod tests;
+pub mod text;
+pub mod tree;
+pub mod write;
