@@ -1,0 +1,4 @@
+pub mod Calls
+pub mod Mutated
+pub mod Settles
+pub mod Takes

@@ -1,0 +1,15 @@
+use Rattle.cat_model.specs.Step.Event.{Refresh}
+use Rattle.cat_core.proofs.Calls.{ledger_kept, reply_is, state_is}
+use Rattle.cat_core.proofs.catalogue.Catalogue.refresh.Goals as goal
+
+pub invariant_of-self : goal.invariant_of-self
+invariant_of-self g c =
+    ledger_kept g.L.Layers.rules (Refresh c.args.reference.now) c.self.inside.ledger c.args.self.now c.self.view_is c.refresh_step-came.result c.refresh_step-came.ensures c.taken_in.new.state c.taken_in.ensures.state c.self.invariant
+
+pub returns-clause-state : goal.returns-clause-state
+returns-clause-state g c =
+    state_is g.L.Layers.rules (Refresh c.args.reference.now) c.self.inside.ledger c.args.self.now c.self.view_is c.refresh_step-came.result c.refresh_step-came.ensures c.taken_in.new.state c.taken_in.ensures.state c.taken_in.result c.taken_in.ensures.answer
+
+pub returns-clause-reply : goal.returns-clause-reply
+returns-clause-reply g c =
+    reply_is g.L.Layers.rules (Refresh c.args.reference.now) c.self.inside.ledger c.args.self.now c.self.view_is c.refresh_step-came.result c.refresh_step-came.ensures c.taken_in.result c.taken_in.ensures.answer

@@ -1,0 +1,15 @@
+use Rattle.cat_model.specs.Step.Event.{ShelfPut}
+use Rattle.cat_core.proofs.Calls.{ledger_kept, reply_is, state_is}
+use Rattle.cat_core.proofs.catalogue.Catalogue.shelf_put.Goals as goal
+
+pub invariant_of-self : goal.invariant_of-self
+invariant_of-self g c =
+    ledger_kept g.L.Layers.rules (ShelfPut c.args.name.now c.args.body.now) c.self.inside.ledger c.args.self.now c.self.view_is c.shelf_put_step-came.result c.shelf_put_step-came.ensures c.taken_in.new.state c.taken_in.ensures.state c.self.invariant
+
+pub returns-clause-state : goal.returns-clause-state
+returns-clause-state g c =
+    state_is g.L.Layers.rules (ShelfPut c.args.name.now c.args.body.now) c.self.inside.ledger c.args.self.now c.self.view_is c.shelf_put_step-came.result c.shelf_put_step-came.ensures c.taken_in.new.state c.taken_in.ensures.state c.taken_in.result c.taken_in.ensures.answer
+
+pub returns-clause-reply : goal.returns-clause-reply
+returns-clause-reply g c =
+    reply_is g.L.Layers.rules (ShelfPut c.args.name.now c.args.body.now) c.self.inside.ledger c.args.self.now c.self.view_is c.shelf_put_step-came.result c.shelf_put_step-came.ensures c.taken_in.result c.taken_in.ensures.answer

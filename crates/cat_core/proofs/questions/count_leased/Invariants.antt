@@ -1,0 +1,9 @@
+use Rattle.std.proofs.Common.{◌≡◌, ◌≤◌, ◌+◌, length, drop}
+use Rattle.std.specs.List.{filter}
+use Rattle.cat_types.specs.Table.{get, keys}
+use Rattle.cat_model.specs.Reply.{is_leased}
+use Rattle.cat_core.proofs.questions.count_leased.Given as goal
+
+abbrev pub invariant-loop-reference : goal.invariant-loop-reference
+invariant-loop-reference l =
+    (l.count ≤ l.reference-index) × (l.count + length (filter (λ r. is_leased l.now (get l.m.records r)) (keys (drop l.reference-index l.reference-items))) ≡ length (filter (λ r. is_leased l.now (get l.m.records r)) (keys l.reference-items)))

@@ -1,0 +1,20 @@
+-- What holds of a catalogue between two calls.
+use Rattle.std.specs.Prelude.{ℕ, ◌<◌, ◌≤◌, ◌^◌}
+use Rattle.cat_model.specs.declared.types.Settings.{Settings}
+use Rattle.cat_model.specs.Catalogue.{Rules}
+use Rattle.cat_model.specs.Sound.{AreSmall, Sound}
+use Rattle.cat_core.specs.declared.ledger.Ledger.{Ledger}
+
+-- the interval and the lease are 1 to 2^40, and the limit on the stored input bytes is below 2^62
+pub record AreSettings (s : Settings) : Type 0 where
+  pub interval_from : 1 ≤ s.interval
+  pub interval_to : s.interval ≤ 2 ^ 40
+  pub lease_from : 1 ≤ s.lease
+  pub lease_to : s.lease ≤ 2 ^ 40
+  pub input_limit : s.input_limit < 2 ^ 62
+
+-- the state is sound, and its counters and the settings are in their bounds
+pub record IsKept (rules : Rules) (ledger : Ledger) : Type 0 where
+  pub settings : AreSettings ledger.settings
+  pub sound : Sound rules ledger.state
+  pub small : AreSmall ledger.state

@@ -1,0 +1,493 @@
+//! The catalogue.
+ghost use Rattle.std.specs.Prelude.{◌≡◌, ℕ, ◌<◌, ◌≤◌, ◌^◌, IfOk, IfErr, Option, IsTrue, ◌↔◌, is_ok, option_map};
+ghost use Rattle.std.specs.declared.option.Option.TheVariants.{None};
+ghost use Rattle.cat_types.specs.Table.{get};
+ghost use Rattle.cat_model.specs.Catalogue.{holding};
+ghost use Rattle.cat_model.specs.Fresh.{IsFresh};
+ghost use Rattle.cat_model.specs.Given.{given};
+ghost use Rattle.cat_model.specs.Reply.{acted, counts, finished, issues_at, next_known, next_stitch, placed, resting, state_counts, taken};
+ghost use Rattle.cat_model.specs.Settle.{not_begun, try_settle};
+ghost use Rattle.cat_model.specs.Sound.{AreSmall, Quiet, Sound, its_number};
+ghost use Rattle.cat_events.specs.Stepped.{come_to, AreMoments};
+ghost use Rattle.cat_core.specs.Answer.{IsSettled, settle_answer};
+ghost use Rattle.cat_model.specs.Step.{ref_at, refusal, source_at, start, step};
+ghost use Rattle.cat_model.specs.Step.Event.{Finish, Forget, ForgetNumber, Mutate, PutStitch, Refresh, ShelfDrop, ShelfPut, Take};
+
+use crate::called::{core_fault, taken_in, with_reply};
+use crate::extra::{forget_number_step, next_ref, ref_with, refresh_step};
+use crate::fault::{CoreFault, Cut};
+use crate::ledger::Ledger;
+use crate::orders::{finish_reply, take_came};
+use crate::questions::{
+    counts_of, is_quiet, issues_of, number_of, rests, stitch_after, stitch_reply,
+};
+use cat_events::change::{forget_step, shelf_drop_step, shelf_put_step};
+use cat_events::given::{given_by, serial_of};
+use cat_events::lease::finish_step;
+use cat_events::mutation::{last_serial, mutation_step};
+use cat_events::stepped::Stepped;
+use cat_events::stitch::stitch_step;
+use cat_hold::hold::row_of;
+use cat_hold::layers::Layers;
+use cat_model::types::{
+    Acted, Counts, Finished, Order, Placed, Progress, Row, Settings, State, StateCounts,
+    StitchOrder, Stop,
+};
+use cat_ref::reference::Ref;
+use cat_settle::settle::settled;
+use cat_tree::text::Text;
+use cat_types::input::Mutation;
+use cat_types::issue::Issue;
+use cat_types::node::Node;
+use cat_types::table::{Listing, Table};
+use cat_types::work::Outcome;
+use std::alloc::{AllocError, Global};
+use std::marker::Model;
+use std::mem;
+
+/// A catalogue over its lower layers.
+#[derive(Drop)]
+pub struct Catalogue<L: Layers> {
+    layers: L,
+    ledger: Ledger,
+}
+
+impl<L: Layers> Model for Catalogue<L> {
+    ghost use Rattle.cat_core.specs.declared.ledger.Ledger.{Ledger};
+    ghost use Rattle.cat_core.specs.contracts.ledger.Ledger.{the_row};
+    ghost use Rattle.cat_core.specs.Kept.{IsKept};
+
+    ghost Value = { Ledger };
+
+    ghost coded = { the_row.coded };
+
+    ghost view = { λ a. a.ledger };
+
+    ghost invariant = { λ a. IsKept L.rules a.ledger };
+}
+
+fn empty_state(alloc: Global) -> State
+    ensures { result ≡ start }
+{
+    State {
+        providers: Table::new(alloc),
+        shelf: Table::new(alloc),
+        rows: Table::new(alloc),
+        holders: Table::new(alloc),
+        records: Table::new(alloc),
+        orphans: Table::new(alloc),
+        marks: Table::new(alloc),
+        documents: Table::new(alloc),
+        arrival: 1,
+        number: 1,
+        token: 1,
+        ticket: 1,
+    }
+}
+
+// What a mutation with a new serial comes to.
+fn mutation_came<L: Layers>(
+    alloc: Global,
+    layers: &L,
+    settings: &Settings,
+    provider: &Text,
+    mutation: &Mutation,
+    m: &State,
+) -> Result<Stepped, AllocError>
+    requires small { AreSmall m.now }
+    requires later { (source_at (get m.now.providers provider.now)).serial < (given provider.now mutation.now).serial }
+    ensures { IfOk result (λ o. o ≡ come_to L.rules settings.now (Mutate provider.now (given provider.now mutation.now)) m.now) }
+{
+    let x = given_by(alloc, provider, mutation)?;
+    let o = mutation_step(alloc, layers, settings, provider, &x, m)?;
+    Ok(o)
+}
+
+fn begun(state: State) -> Progress
+    ensures { result ≡ not_begun state }
+{
+    Progress {
+        state,
+        rounds: 0,
+        leases: 0,
+        stitched: 0,
+        events: 0,
+        stop: None,
+    }
+}
+
+// What a settle answers.
+fn settle_reply(came: Result<(), AllocError>, p: &Progress) -> Result<Counts, Cut>
+    ensures { result ≡ settle_answer came p.now }
+{
+    match came {
+        Err(_) => Err(Cut {
+            events: p.events,
+            fault: CoreFault::NoMemory,
+        }),
+        Ok(()) => match p.stop {
+            None => Ok(Counts {
+                rounds: p.rounds,
+                leases: p.leases,
+                stitched: p.stitched,
+            }),
+            Some(Stop::Refused(fault)) => Err(Cut {
+                events: p.events,
+                fault: core_fault(fault),
+            }),
+            Some(Stop::Limit) => Err(Cut {
+                events: p.events,
+                fault: CoreFault::NoMemory,
+            }),
+        },
+    }
+}
+
+// Settles a state. It is taken out for as long as it is settled.
+fn settle_state<L: Layers>(
+    alloc: Global,
+    layers: &L,
+    settings: &Settings,
+    now: u64,
+    state: &mut State,
+) -> Result<Counts, Cut>
+    requires small { AreSmall state.old }
+    requires sound { Sound L.rules state.old }
+    requires moments { AreMoments settings.now now }
+    requires interval { 1 ≤ settings.now.interval }
+    ensures settled { IsSettled L.rules settings.now now state.old result state.new }
+    ensures small { AreSmall state.new }
+    ensures sound { Sound L.rules state.new }
+{
+    let taken = mem::replace(state, empty_state(alloc));
+    let mut p = begun(taken);
+    let came = settled(alloc, layers, settings, now, &mut p);
+    let reply = settle_reply(came, &p);
+    *state = p.state;
+    reply
+}
+
+impl<L: Layers> Catalogue<L> {
+    ghost use Rattle.cat_core.specs.Answer.{IsCutSettle, IsReply, after};
+    ghost use Rattle.cat_core.specs.Kept.{AreSettings};
+
+    /// A catalogue with nothing in it. No memory is taken.
+    pub fn empty(alloc: Global, layers: L, settings: Settings) -> Catalogue<L>
+        requires { AreSettings settings }
+        ensures state { result.state ≡ start }
+        ensures settings { result.settings ≡ settings }
+    {
+        let state = empty_state(alloc);
+        Catalogue {
+            layers,
+            ledger: Ledger { settings, state },
+        }
+    }
+
+    /// A provider's inputs change, and what follows from that. A serial that is the last one again changes nothing. Neither
+    /// that nor a lower serial takes memory.
+    pub fn mutate(
+        &mut self,
+        alloc: Global,
+        provider: &Text,
+        mutation: &Mutation,
+    ) -> Result<Acted, CoreFault>
+        ensures state { self.new.state ≡ after result self.old.state (step L.rules self.old.settings (Mutate provider.now (given provider.now mutation.now)) self.old.state) }
+        ensures settings { self.new.settings ≡ self.old.settings }
+        ensures reply { IsReply result (refusal L.rules self.old.settings (Mutate provider.now (given provider.now mutation.now)) self.old.state) (acted provider.now (given provider.now mutation.now) self.old.state) }
+        ensures again { (given provider.now mutation.now).serial ≡ (source_at (get self.old.state.providers provider.now)).serial → result ≡ Ok Acted.Again }
+        ensures old { (given provider.now mutation.now).serial < (source_at (get self.old.state.providers provider.now)).serial → result ≡ Err (CoreFault.OldSerial (source_at (get self.old.state.providers provider.now)).serial) }
+    {
+        let last = last_serial(&self.ledger.state, provider);
+        let serial = serial_of(mutation);
+        if serial < last {
+            return Err(CoreFault::OldSerial(last));
+        }
+        if serial == last {
+            return Ok(Acted::Again);
+        }
+        let came = mutation_came(
+            alloc,
+            &self.layers,
+            &self.ledger.settings,
+            provider,
+            mutation,
+            &self.ledger.state,
+        );
+        with_reply(taken_in(came, &mut self.ledger.state), Acted::Now)
+    }
+
+    /// Puts a text on the shelf; every record that reads its name is due.
+    pub fn shelf_put(&mut self, alloc: Global, name: &Text, body: &Text) -> Result<(), CoreFault>
+        ensures state { self.new.state ≡ after result self.old.state (step L.rules self.old.settings (ShelfPut name.now body.now) self.old.state) }
+        ensures settings { self.new.settings ≡ self.old.settings }
+        ensures reply { IsReply result (refusal L.rules self.old.settings (ShelfPut name.now body.now) self.old.state) tt }
+    {
+        let came = shelf_put_step(
+            alloc,
+            &self.layers,
+            &self.ledger.settings,
+            name,
+            body,
+            &self.ledger.state,
+        );
+        taken_in(came, &mut self.ledger.state)
+    }
+
+    /// Drops a text from the shelf.
+    pub fn shelf_drop(&mut self, alloc: Global, name: &Text) -> Result<(), CoreFault>
+        ensures state { self.new.state ≡ after result self.old.state (step L.rules self.old.settings (ShelfDrop name.now) self.old.state) }
+        ensures settings { self.new.settings ≡ self.old.settings }
+        ensures reply { IsReply result (refusal L.rules self.old.settings (ShelfDrop name.now) self.old.state) tt }
+    {
+        let came = shelf_drop_step(
+            alloc,
+            &self.layers,
+            &self.ledger.settings,
+            name,
+            &self.ledger.state,
+        );
+        taken_in(came, &mut self.ledger.state)
+    }
+
+    /// Forgets a record or an orphan with all that it emitted. What is still offered for the reference gets a new number.
+    pub fn forget(&mut self, alloc: Global, reference: &Ref) -> Result<(), CoreFault>
+        ensures state { self.new.state ≡ after result self.old.state (step L.rules self.old.settings (Forget reference.now) self.old.state) }
+        ensures settings { self.new.settings ≡ self.old.settings }
+        ensures reply { IsReply result (refusal L.rules self.old.settings (Forget reference.now) self.old.state) tt }
+    {
+        let came = forget_step(
+            alloc,
+            &self.layers,
+            &self.ledger.settings,
+            reference,
+            &self.ledger.state,
+        );
+        taken_in(came, &mut self.ledger.state)
+    }
+
+    /// Runs rounds until no record is due at this moment, and then stitches all marked references.
+    pub fn settle(&mut self, alloc: Global, now: u64) -> Result<Counts, Cut>
+        requires { now < 2 ^ 53 }
+        ensures settings { self.new.settings ≡ self.old.settings }
+        ensures state { IfOk result (λ x. self.new.state ≡ (try_settle L.rules self.old.settings now None self.old.state).state) }
+        ensures counts { IfOk result (λ x. x ≡ counts (try_settle L.rules self.old.settings now None self.old.state)) }
+        ensures quiet { IfOk result (λ x. Quiet self.new.state now) }
+        ensures ended { IfOk result (λ x. (try_settle L.rules self.old.settings now None self.old.state).stop ≡ None) }
+        ensures cut { IfErr result (λ x. IsCutSettle L.rules self.old.settings now self.old.state self.new.state x) }
+    {
+        settle_state(
+            alloc,
+            &self.layers,
+            &self.ledger.settings,
+            now,
+            &mut self.ledger.state,
+        )
+    }
+
+    /// Stores the document of an order's parts, where the order is that of the present mark with the present parts. Any other
+    /// is late and changes nothing.
+    pub fn put_stitch(
+        &mut self,
+        alloc: Global,
+        order: &StitchOrder,
+        document: &Node,
+    ) -> Result<Placed, CoreFault>
+        requires { document.now ≡ L.rules.doc order.now.parts }
+        ensures state { self.new.state ≡ after result self.old.state (step L.rules self.old.settings (PutStitch order.now) self.old.state) }
+        ensures settings { self.new.settings ≡ self.old.settings }
+        ensures reply { IsReply result (refusal L.rules self.old.settings (PutStitch order.now) self.old.state) (placed L.rules order.now self.old.state) }
+    {
+        match stitch_reply(alloc, &self.layers, order, &self.ledger.state) {
+            Ok(placed) => {
+                let came = stitch_step(
+                    alloc,
+                    &self.layers,
+                    &self.ledger.settings,
+                    order,
+                    document,
+                    &self.ledger.state,
+                );
+                with_reply(taken_in(came, &mut self.ledger.state), placed)
+            }
+            Err(_) => Err(CoreFault::NoMemory),
+        }
+    }
+
+    /// Makes a record due at once.
+    pub fn refresh(&mut self, alloc: Global, reference: &Ref) -> Result<(), CoreFault>
+        ensures state { self.new.state ≡ after result self.old.state (step L.rules self.old.settings (Refresh reference.now) self.old.state) }
+        ensures settings { self.new.settings ≡ self.old.settings }
+        ensures reply { IsReply result (refusal L.rules self.old.settings (Refresh reference.now) self.old.state) tt }
+    {
+        let came = refresh_step(
+            alloc,
+            &self.layers,
+            &self.ledger.settings,
+            reference,
+            &self.ledger.state,
+        );
+        taken_in(came, &mut self.ledger.state)
+    }
+
+    /// Forgets the record or orphan with this number.
+    pub fn forget_number(&mut self, alloc: Global, number: u64) -> Result<(), CoreFault>
+        ensures state { self.new.state ≡ after result self.old.state (step L.rules self.old.settings (ForgetNumber number) self.old.state) }
+        ensures settings { self.new.settings ≡ self.old.settings }
+        ensures reply { IsReply result (refusal L.rules self.old.settings (ForgetNumber number) self.old.state) tt }
+    {
+        let came = forget_number_step(
+            alloc,
+            &self.layers,
+            &self.ledger.settings,
+            number,
+            &self.ledger.state,
+        );
+        taken_in(came, &mut self.ledger.state)
+    }
+
+    /// The reference of a record or an orphan with this number.
+    pub fn ref_at(&self, alloc: Global, number: u64) -> Result<Option<Ref>, AllocError>
+        ensures { IfOk result (λ r. r ≡ ref_at self.now.state number) }
+    {
+        ref_with(alloc, &self.ledger.state, number)
+    }
+
+    /// The next reference that is a record or an orphan, or the first.
+    pub fn after(&self, alloc: Global, reference: Option<&Ref>) -> Result<Option<Ref>, AllocError>
+        ensures { IfOk result (λ r. r ≡ next_known self.now.state (option_map (λ x. x.now) reference.entry)) }
+    {
+        next_ref(alloc, &self.ledger.state, reference)
+    }
+
+    /// Leases the record that is due first and free, and gives its order; none where nothing is due and free.
+    pub fn take(&mut self, alloc: Global, now: u64) -> Result<Option<Order>, CoreFault>
+        requires { now < 2 ^ 53 }
+        ensures state { self.new.state ≡ after result self.old.state (step L.rules self.old.settings (Take now) self.old.state) }
+        ensures settings { self.new.settings ≡ self.old.settings }
+        ensures reply { IsReply result (refusal L.rules self.old.settings (Take now) self.old.state) (taken L.rules self.old.settings now self.old.state) }
+    {
+        match take_came(
+            alloc,
+            &self.layers,
+            &self.ledger.settings,
+            now,
+            &self.ledger.state,
+        ) {
+            Ok(x) => with_reply(taken_in(Ok(x.0), &mut self.ledger.state), x.1),
+            Err(_) => Err(CoreFault::NoMemory),
+        }
+    }
+
+    /// Takes in the result of an order's work, where the order is that of the present lease. Any other is late and changes
+    /// nothing.
+    pub fn finish(
+        &mut self,
+        alloc: Global,
+        order: &Order,
+        outcome: &Outcome,
+        now: u64,
+    ) -> Result<Finished, CoreFault>
+        requires moment { now < 2 ^ 53 }
+        requires outcome { outcome.now ≡ L.rules.result order.now.work }
+        ensures state { self.new.state ≡ after result self.old.state (step L.rules self.old.settings (Finish order.now now) self.old.state) }
+        ensures settings { self.new.settings ≡ self.old.settings }
+        ensures reply { IsReply result (refusal L.rules self.old.settings (Finish order.now now) self.old.state) (finished L.rules order.now self.old.state) }
+    {
+        match finish_reply(alloc, &self.layers, order, outcome, &self.ledger.state) {
+            Ok(reply) => {
+                let came = finish_step(
+                    alloc,
+                    &self.layers,
+                    &self.ledger.settings,
+                    order,
+                    outcome,
+                    now,
+                    &self.ledger.state,
+                );
+                with_reply(taken_in(came, &mut self.ledger.state), reply)
+            }
+            Err(_) => Err(CoreFault::NoMemory),
+        }
+    }
+
+    /// The order of the mark with the least ticket above `after`, with the parts of its reference; none where no mark has such
+    /// a ticket.
+    pub fn take_stitch(&self, alloc: Global, after: u64) -> Result<Option<StitchOrder>, CoreFault>
+        ensures ok { IfOk result (λ o. o ≡ next_stitch L.rules self.now.state after) }
+        ensures err { IfErr result (λ e. e ≡ CoreFault.NoMemory) }
+    {
+        match stitch_after(alloc, &self.layers, &self.ledger.state, after) {
+            Ok(order) => Ok(order),
+            Err(_) => Err(CoreFault::NoMemory),
+        }
+    }
+
+    /// Whether no record is due at this moment and no reference is marked. No memory is taken.
+    pub fn quiet(&self, now: u64) -> bool
+        ensures { IsTrue result ↔ Quiet self.now.state now }
+    {
+        is_quiet(&self.ledger.state, now)
+    }
+
+    /// How many records, orphans, due records, live leases and marks there are. No memory is taken.
+    pub fn state(&self, now: u64) -> StateCounts
+        ensures { result ≡ state_counts self.now.state now }
+    {
+        counts_of(&self.ledger.state, now)
+    }
+
+    /// All that the catalogue holds, to be read.
+    pub fn view(&self) -> &State
+        ensures { result.now ≡ self.now.state }
+    {
+        &self.ledger.state
+    }
+
+    /// The documents, in order of reference. Where the catalogue is quiet they are those computed afresh from its inputs.
+    pub fn docs(&self) -> &[(Ref, Node)]
+        ensures docs { result.now ≡ self.now.state.documents }
+        ensures fresh { (now : ℕ) → Quiet self.now.state now → IsFresh L.rules self.now.state }
+    {
+        self.ledger.state.documents.as_slice()
+    }
+
+    /// The document of a reference.
+    pub fn get(&self, reference: &Ref) -> Option<&Node>
+        ensures { option_map (λ x. x.now) result ≡ get self.now.state.documents reference.now }
+    {
+        self.ledger.state.documents.get(reference)
+    }
+
+    /// The number of a record or an orphan, which its `uid` shows.
+    pub fn number_of(&self, reference: &Ref) -> Option<u64>
+        ensures { result ≡ its_number self.now.state reference.now }
+    {
+        number_of(&self.ledger.state, reference)
+    }
+
+    /// A record's issues.
+    pub fn issues(&self, reference: &Ref) -> Option<&Listing<Issue>>
+        ensures { option_map (λ x. x.now) result ≡ issues_at self.now.state reference.now }
+    {
+        issues_of(&self.ledger.state, reference)
+    }
+
+    /// Whether what is known under a reference is an orphan; none where nothing is known.
+    pub fn resting(&self, reference: &Ref) -> Option<bool>
+        ensures { result ≡ resting self.now.state reference.now }
+    {
+        rests(&self.ledger.state, reference)
+    }
+
+    /// The row that holds a reference.
+    pub fn holder(&self, reference: &Ref) -> Option<&Row>
+        ensures { option_map (λ x. x.now) result ≡ holding self.now.state.rows self.now.state.holders reference.now }
+    {
+        row_of(
+            &self.ledger.state.rows,
+            &self.ledger.state.holders,
+            reference,
+        )
+    }
+}

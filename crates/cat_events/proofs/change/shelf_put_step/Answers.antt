@@ -1,0 +1,7 @@
+use Rattle.cat_events.proofs.Steps.{put_steps}
+use Rattle.cat_events.proofs.change.shelf_put_step.Goals as goal
+
+pub returns : goal.returns
+returns g c =
+    put_steps g.L.Layers.rules c.args.settings.now c.args.name.now c.args.text.now c.args.m.now c.in_ok-n.n c.in_ok-f.f c.in_ok-fault.fault c.unless-o.result
+    c.in_ok-n.ensures.state c.in_ok-f.ensures c.in_ok-fault.ensures c.unless-o.ensures

@@ -1,0 +1,206 @@
+//! Mutations.
+ghost use Rattle.std.specs.Prelude.{◌≡◌, ◌<◌, ◌≤◌, ◌^◌, IfOk, Option, Bool, [], cond, option_and_then};
+ghost use Rattle.std.specs.declared.option.Option.TheVariants.{None, Some};
+ghost use Rattle.std.specs.List.{list_any};
+ghost use Rattle.cat_types.specs.Table.{find, get, same_text, text_cmp};
+ghost use Rattle.cat_model.specs.declared.types.Leaving.TheVariants.{Deleted};
+ghost use Rattle.cat_model.specs.Catalogue.{frame};
+ghost use Rattle.cat_model.specs.Sound.{AreSmall};
+ghost use Rattle.cat_model.specs.Step.{items_after, mutated_state, or_else, put_all, source_at, spent, too_large, without};
+ghost use Rattle.cat_model.specs.Step.Event.{Mutate};
+ghost use Rattle.cat_events.specs.Stepped.{come_to, over_limit};
+
+use crate::refusal::{spent_of, unless};
+use crate::rows::replaced_rows;
+use crate::stepped::Stepped;
+use crate::without::is_same;
+use cat_frame::frame::framed;
+use cat_hold::build::{Gives, tabulated};
+use cat_hold::layers::Layers;
+use cat_model::types::{Fault, Given, Leaving, Origin, ProviderInputs, Settings, State};
+use cat_ref::reference::Ref;
+use cat_tree::text::Text;
+use cat_types::input::Offered;
+use cat_types::table::{Copied, Listing, Table};
+use std::alloc::{AllocError, Global};
+
+fn is_removed(refs: &[Ref], reference: &Ref) -> bool
+    ensures { result ≡ list_any (same_text reference.now) refs.now }
+{
+    for other in refs {
+        if is_same(reference, other) {
+            return true;
+        }
+    }
+    false
+}
+
+#[derive(Drop)]
+struct Without<'a> {
+    refs: &'a Listing<Ref>,
+    items: &'a Table<Ref, Offered>,
+}
+
+impl Gives<Ref, Offered> for Without<'_> {
+    ghost gives = { λ s r. option_and_then (λ x. cond (list_any (same_text r) s.refs.now) None (Some x)) (find text_cmp r s.items.now) };
+
+    fn give(&self, alloc: Global, key: &Ref) -> Result<Option<Offered>, AllocError> {
+        match self.items.get(key) {
+            None => Ok(None),
+            Some(offered) => {
+                if is_removed(self.refs.as_slice(), key) {
+                    Ok(None)
+                } else {
+                    Ok(Some(offered.duplicate(alloc)?))
+                }
+            }
+        }
+    }
+}
+
+fn items_left(
+    alloc: Global,
+    refs: &Listing<Ref>,
+    items: &Table<Ref, Offered>,
+) -> Result<Table<Ref, Offered>, AllocError>
+    ensures { IfOk result (λ t. t ≡ without refs.now items.now) }
+{
+    let all = items.keys(alloc)?;
+    let stays = Without { refs, items };
+    tabulated(alloc, all.as_slice(), &stays)
+}
+
+// All entries are put, the first one last.
+fn with_all(
+    alloc: Global,
+    entries: &[(Ref, Offered)],
+    base: Table<Ref, Offered>,
+) -> Result<Table<Ref, Offered>, AllocError>
+    ensures { IfOk result (λ t. t ≡ put_all entries.now base) }
+{
+    let mut made = base;
+    let mut left = entries.len();
+    while left > 0 {
+        left -= 1;
+        let (key, offered) = entries[left].duplicate(alloc)?;
+        made.put(key, offered)?;
+    }
+    Ok(made)
+}
+
+fn next_items(
+    alloc: Global,
+    x: &Given,
+    items: &Table<Ref, Offered>,
+) -> Result<Table<Ref, Offered>, AllocError>
+    ensures { IfOk result (λ t. t ≡ items_after x.now items.now) }
+{
+    if x.full {
+        with_all(alloc, x.items.as_slice(), Table::new(alloc))
+    } else {
+        let rest = items_left(alloc, &x.removed, items)?;
+        with_all(alloc, x.items.as_slice(), rest)
+    }
+}
+
+// The provider's inputs, none at first.
+fn source_of(alloc: Global, m: &State, p: &Text) -> Result<ProviderInputs, AllocError>
+    ensures { IfOk result (λ x. x ≡ source_at (get m.now.providers p.now)) }
+{
+    match m.providers.get(p) {
+        None => Ok(ProviderInputs {
+            serial: 0,
+            items: Table::new(alloc),
+        }),
+        Some(source) => source.duplicate(alloc),
+    }
+}
+
+fn mutated(
+    alloc: Global,
+    p: &Text,
+    x: &Given,
+    source: &ProviderInputs,
+    m: &State,
+) -> Result<State, AllocError>
+    requires { AreSmall m.now }
+    ensures state { IfOk result (λ n. n ≡ mutated_state p.now x.now source.now m.now) }
+    ensures number { IfOk result (λ n. n.number ≤ 2 ^ 59) }
+    ensures ticket { IfOk result (λ n. n.ticket ≤ 2 ^ 59) }
+{
+    let items = next_items(alloc, x, &source.items)?;
+    let order = x.items.keys(alloc)?;
+    let origin = Origin::Provider(p.duplicate(alloc)?);
+    let numbered = replaced_rows(alloc, &origin, &items, order.as_slice(), m)?;
+    let mut n = m.duplicate(alloc)?;
+    let inputs = ProviderInputs {
+        serial: x.serial,
+        items,
+    };
+    n.providers.put(p.duplicate(alloc)?, inputs)?;
+    n.rows = numbered.rows;
+    n.arrival = numbered.next;
+    Ok(n)
+}
+
+/// The provider's last serial number, 0 at first.
+pub fn last_serial(m: &State, p: &Text) -> u64
+    ensures { result ≡ (source_at (get m.now.providers p.now)).serial }
+{
+    match m.providers.get(p) {
+        None => 0,
+        Some(source) => source.serial,
+    }
+}
+
+// The state after a mutation with a new serial, with all that follows.
+fn after_mutation<L: Layers>(
+    alloc: Global,
+    layers: &L,
+    p: &Text,
+    x: &Given,
+    m: &State,
+) -> Result<State, AllocError>
+    requires { AreSmall m.now }
+    ensures { IfOk result (λ n. n ≡ frame L.rules Deleted m.now (mutated_state p.now x.now (source_at (get m.now.providers p.now)) m.now)) }
+{
+    let source = source_of(alloc, m, p)?;
+    let n = mutated(alloc, p, x, &source, m)?;
+    let f = framed(alloc, layers, Leaving::Deleted, m, n)?;
+    Ok(f)
+}
+
+/// The refusals of what adds to the inputs, where `n` is the state that it gives.
+pub fn input_fault<L: Layers>(
+    alloc: Global,
+    layers: &L,
+    settings: &Settings,
+    n: &State,
+) -> Result<Option<Fault>, AllocError>
+    ensures { IfOk result (λ f. f ≡ or_else (over_limit L.rules settings.now n.now) (spent n.now)) }
+{
+    let sum = layers.bytes(alloc, &n.providers, &n.shelf)?;
+    if settings.input_limit < sum {
+        return Ok(Some(Fault::TooLarge(sum)));
+    }
+    Ok(spent_of(n))
+}
+
+/// What a mutation comes to whose serial is above the provider's last one.
+pub fn mutation_step<L: Layers>(
+    alloc: Global,
+    layers: &L,
+    settings: &Settings,
+    p: &Text,
+    x: &Given,
+    m: &State,
+) -> Result<Stepped, AllocError>
+    requires small { AreSmall m.now }
+    requires later { (source_at (get m.now.providers p.now)).serial < x.now.serial }
+    ensures { IfOk result (λ o. o ≡ come_to L.rules settings.now (Mutate p.now x.now) m.now) }
+{
+    let n = after_mutation(alloc, layers, p, x, m)?;
+    let fault = input_fault(alloc, layers, settings, &n)?;
+    let o = unless(fault, n);
+    Ok(o)
+}

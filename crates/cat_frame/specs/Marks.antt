@@ -1,0 +1,20 @@
+-- Marks and documents after a change, said of the references whose parts changed.
+use Rattle.std.specs.Prelude.{ℕ, ◌+◌, cond, List}
+use Rattle.std.specs.declared.option.Option.{Option}
+use Rattle.std.specs.declared.option.Option.TheVariants.{None, Some}
+use Rattle.std.specs.List.{list_any}
+use Rattle.cat_tree.specs.Data.{Data}
+use Rattle.cat_types.specs.Table.{Text, get, place, same_text, text_cmp}
+use Rattle.cat_hold.specs.Parts.{has_parts}
+use Rattle.cat_model.specs.declared.types.State.{State}
+
+-- a reference without parts has no mark; one whose parts changed draws a ticket; any other keeps its mark
+abbrev pub marked : ℕ → List Text → State → Text → Option ℕ
+marked ticket changed n r =
+    cond (has_parts (get n.orphans r) (get n.records r))
+    (cond (list_any (same_text r) changed) (Some (ticket + place text_cmp r changed)) (get n.marks r))
+    None
+
+-- a document stays where its reference has parts
+abbrev pub with_parts : State → Text → Data → Option Data
+with_parts n r document = cond (has_parts (get n.orphans r) (get n.records r)) (Some document) None

@@ -1,0 +1,85 @@
+//! Tables and lists that are made key by key.
+ghost use Rattle.std.specs.Prelude.{◌≡◌, IfOk};
+ghost use Rattle.std.specs.List.{filter};
+ghost use Rattle.cat_types.specs.Table.{first, tabulate};
+
+use cat_types::table::{Copied, Key, Listing, Table};
+use std::alloc::{AllocError, Global};
+
+/// A function from keys to values, for some keys none.
+pub trait Gives<K, X> {
+    ghost use Rattle.std.specs.Prelude.{Option};
+
+    ghost gives: { Self → K → Option X };
+
+    /// The value of a key.
+    fn give(&self, alloc: Global, key: &K) -> Result<Option<X>, AllocError>
+        ensures { IfOk result (λ v. v ≡ gives self.now key.now) };
+}
+
+/// A test of keys.
+pub trait Passes<K> {
+    ghost use Rattle.std.specs.Prelude.{Bool};
+
+    ghost passes: { Self → K → Bool };
+
+    /// Whether a key passes.
+    fn test(&self, alloc: Global, key: &K) -> Result<bool, AllocError>
+        ensures { IfOk result (λ v. v ≡ passes self.now key.now) };
+}
+
+/// The table of the values that the function gives these keys, in order of the keys; a key without a value is left out.
+pub fn tabulated<K: Key + Copied + Drop, X: Drop, F: Gives<K, X>>(
+    alloc: Global,
+    keys: &[K],
+    f: &F,
+) -> Result<Table<K, X>, AllocError>
+    ensures { IfOk result (λ t. t ≡ tabulate K.order keys.now (F.gives f.now)) }
+{
+    let mut made = Table::new(alloc);
+    let mut left = keys.len();
+    while left > 0 {
+        left -= 1;
+        match f.give(alloc, &keys[left])? {
+            Some(value) => {
+                let key = keys[left].duplicate(alloc)?;
+                made.put(key, value)?;
+            }
+            None => {}
+        }
+    }
+    Ok(made)
+}
+
+/// The keys that pass, in their order.
+pub fn filtered<K: Copied + Drop, F: Passes<K>>(
+    alloc: Global,
+    keys: &[K],
+    f: &F,
+) -> Result<Listing<K>, AllocError>
+    ensures { IfOk result (λ ks. ks ≡ filter (F.passes f.now) keys.now) }
+{
+    let mut made = Vec::new(alloc);
+    for key in keys {
+        if f.test(alloc, key)? {
+            made.push(key.duplicate(alloc)?)?;
+        }
+    }
+    Ok(Listing::from_vec(made))
+}
+
+/// The first key that passes.
+pub fn first_of<K: Copied, F: Passes<K>>(
+    alloc: Global,
+    keys: &[K],
+    f: &F,
+) -> Result<Option<K>, AllocError>
+    ensures { IfOk result (λ k. k ≡ first (F.passes f.now) keys.now) }
+{
+    for key in keys {
+        if f.test(alloc, key)? {
+            return Ok(Some(key.duplicate(alloc)?));
+        }
+    }
+    Ok(None)
+}

@@ -1,0 +1,4 @@
+pub mod Words
+pub mod Arguments
+pub mod Lines
+pub mod Ready

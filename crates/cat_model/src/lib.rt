@@ -1,0 +1,8 @@
+//! The abstract catalogue: its state, the rules of holding, what follows from a change, its events with their replies, a
+//! settle, and the documents computed afresh.
+//!
+//! It stands on the crates that give its types, and takes the lower layers as a record of functions, so that it isn't
+//! changed where a layer changes. What always holds of it is proved in cat_laws.
+#![tactic(auto)]
+
+pub mod types;

@@ -1,0 +1,292 @@
+//! What the catalogue is made of, and what it answers. In contracts each of these is the record or the list of its values.
+use cat_ref::reference::Ref;
+use cat_tree::text::Text;
+use cat_types::input::Offered;
+use cat_types::issue::Issue;
+use cat_types::node::Node;
+use cat_types::parts::Parts;
+use cat_types::table::{Copied, Listing, Table};
+use cat_types::work::{Output, Work};
+use std::alloc::{AllocError, Global};
+
+/// What a provider gave: its last serial, and its items by reference.
+#[derive(Drop)]
+pub struct ProviderInputs {
+    pub serial: u64,
+    pub items: Table<Ref, Offered>,
+}
+
+/// Who offers a row: a provider, or the entity that emitted it.
+#[derive(Drop)]
+pub enum Origin {
+    Provider(Text),
+    Entity(Ref),
+}
+
+/// One offer of an origin for a reference.
+#[derive(Drop)]
+pub struct Row {
+    pub origin: Origin,
+    pub reference: Ref,
+    pub offered: Offered,
+}
+
+/// What becomes of records that leave.
+#[derive(Clone, Copy, Drop)]
+pub enum Leaving {
+    Deleted,
+    Orphaned,
+}
+
+/// A lease on a record: its token, and the moment at which it lapses.
+#[derive(Drop)]
+pub struct Lease {
+    pub token: u64,
+    pub expires: u64,
+}
+
+/// What the catalogue keeps for a held reference: its number, its last good output, its issues, the moment from which it is
+/// due, and its lease.
+#[derive(Drop)]
+pub struct Record {
+    pub number: u64,
+    pub output: Option<Output>,
+    pub issues: Listing<Issue>,
+    pub due: u64,
+    pub lease: Option<Lease>,
+}
+
+/// What is kept of a reference that left at a finish: its number and its last entity.
+#[derive(Drop)]
+pub struct Orphan {
+    pub number: u64,
+    pub entity: Node,
+}
+
+/// A catalogue. Rows stand by arrival, all else by provider, name or reference; the last four are the next numbers to be drawn.
+#[derive(Drop)]
+pub struct State {
+    pub providers: Table<Text, ProviderInputs>,
+    pub shelf: Table<Text, Text>,
+    pub rows: Table<u64, Row>,
+    pub holders: Table<Ref, u64>,
+    pub records: Table<Ref, Record>,
+    pub orphans: Table<Ref, Orphan>,
+    pub marks: Table<Ref, u64>,
+    pub documents: Table<Ref, Node>,
+    pub arrival: u64,
+    pub number: u64,
+    pub token: u64,
+    pub ticket: u64,
+}
+
+/// The rows, and the next arrival.
+#[derive(Drop)]
+pub struct Numbered {
+    pub rows: Table<u64, Row>,
+    pub next: u64,
+}
+
+/// How long a result stands before its record is due again, how long a lease lasts, and the limit on the stored input bytes.
+#[derive(Drop)]
+pub struct Settings {
+    pub interval: u64,
+    pub lease: u64,
+    pub input_limit: u64,
+}
+
+/// A mutation as it acts on a provider's items: with keys filled in, in the order of its list.
+#[derive(Drop)]
+pub struct Given {
+    pub serial: u64,
+    pub full: bool,
+    pub items: Table<Ref, Offered>,
+    pub removed: Listing<Ref>,
+}
+
+/// The work on a reference under a lease.
+#[derive(Drop)]
+pub struct Order {
+    pub reference: Ref,
+    pub token: u64,
+    pub work: Work,
+}
+
+/// The parts of a reference's document under its mark's ticket.
+#[derive(Drop)]
+pub struct StitchOrder {
+    pub reference: Ref,
+    pub ticket: u64,
+    pub parts: Parts,
+}
+
+/// The counters from which numbers are drawn.
+#[derive(Clone, Copy, Drop)]
+pub enum Counter {
+    Arrival,
+    Number,
+    Token,
+    Ticket,
+}
+
+/// Why an event is refused, the least number first.
+#[derive(Clone, Copy, Drop)]
+pub enum Fault {
+    OldSerial(u64),
+    NotFound,
+    TooLarge(u64),
+    Spent(Counter),
+}
+
+/// Why a settle stopped before its end: its next event was refused, or it had as many events as it was given.
+#[derive(Clone, Copy, Drop)]
+pub enum Stop {
+    Refused(Fault),
+    Limit,
+}
+
+/// How far a settle has come: the state after the events that stand, the rounds, leases and stitches, the events in all,
+/// and why it stopped, if it did. The counts stand still at the greatest number of 64 bits.
+#[derive(Drop)]
+pub struct Progress {
+    pub state: State,
+    pub rounds: u64,
+    pub leases: u64,
+    pub stitched: u64,
+    pub events: u64,
+    pub stop: Option<Stop>,
+}
+
+/// What a mutation that isn't refused does: it acts, or its serial is the last one again.
+#[derive(Clone, Copy, Debug, Drop, PartialEq, Eq)]
+pub enum Acted {
+    Now,
+    Again,
+}
+
+/// What a finish does: it counts with a good or a bad result, or it is late, with the token of the present lease.
+#[derive(Clone, Copy, Debug, Drop, PartialEq, Eq)]
+pub enum Finished {
+    Good,
+    Bad,
+    Late(Option<u64>),
+}
+
+/// What the put of a stitch does: it counts, or it is late, with the present ticket.
+#[derive(Clone, Copy, Debug, Drop, PartialEq, Eq)]
+pub enum Placed {
+    Counted,
+    Late(Option<u64>),
+}
+
+/// What a settle that isn't cut answers.
+#[derive(Clone, Copy, Debug, Drop, PartialEq, Eq)]
+pub struct Counts {
+    pub rounds: u64,
+    pub leases: u64,
+    pub stitched: u64,
+}
+
+/// How many records and orphans there are, how many records are due and how many have a live lease, and how many
+/// references are marked.
+#[derive(Clone, Copy, Debug, Drop, PartialEq, Eq)]
+pub struct StateCounts {
+    pub records: u64,
+    pub orphans: u64,
+    pub due: u64,
+    pub leased: u64,
+    pub marked: u64,
+}
+
+impl Copied for ProviderInputs {
+    fn duplicate(&self, alloc: Global) -> Result<ProviderInputs, AllocError> {
+        let items = self.items.duplicate(alloc)?;
+        Ok(ProviderInputs {
+            serial: self.serial,
+            items,
+        })
+    }
+}
+
+impl Copied for Row {
+    fn duplicate(&self, alloc: Global) -> Result<Row, AllocError> {
+        let origin = self.origin.duplicate(alloc)?;
+        let reference = self.reference.duplicate(alloc)?;
+        let offered = self.offered.duplicate(alloc)?;
+        Ok(Row {
+            origin,
+            reference,
+            offered,
+        })
+    }
+}
+
+impl Copied for Lease {
+    fn duplicate(&self, alloc: Global) -> Result<Lease, AllocError> {
+        Ok(Lease {
+            token: self.token,
+            expires: self.expires,
+        })
+    }
+}
+
+impl Copied for Record {
+    fn duplicate(&self, alloc: Global) -> Result<Record, AllocError> {
+        let output = self.output.duplicate(alloc)?;
+        let issues = self.issues.duplicate(alloc)?;
+        let lease = self.lease.duplicate(alloc)?;
+        Ok(Record {
+            number: self.number,
+            output,
+            issues,
+            due: self.due,
+            lease,
+        })
+    }
+}
+
+impl Copied for Orphan {
+    fn duplicate(&self, alloc: Global) -> Result<Orphan, AllocError> {
+        let entity = self.entity.duplicate(alloc)?;
+        Ok(Orphan {
+            number: self.number,
+            entity,
+        })
+    }
+}
+
+impl Copied for State {
+    fn duplicate(&self, alloc: Global) -> Result<State, AllocError> {
+        let providers = self.providers.duplicate(alloc)?;
+        let shelf = self.shelf.duplicate(alloc)?;
+        let rows = self.rows.duplicate(alloc)?;
+        let holders = self.holders.duplicate(alloc)?;
+        let records = self.records.duplicate(alloc)?;
+        let orphans = self.orphans.duplicate(alloc)?;
+        let marks = self.marks.duplicate(alloc)?;
+        let documents = self.documents.duplicate(alloc)?;
+        Ok(State {
+            providers,
+            shelf,
+            rows,
+            holders,
+            records,
+            orphans,
+            marks,
+            documents,
+            arrival: self.arrival,
+            number: self.number,
+            token: self.token,
+            ticket: self.ticket,
+        })
+    }
+}
+
+impl Copied for Origin {
+    fn duplicate(&self, alloc: Global) -> Result<Origin, AllocError> {
+        match self {
+            Origin::Provider(name) => Ok(Origin::Provider(name.duplicate(alloc)?)),
+            Origin::Entity(reference) => Ok(Origin::Entity(reference.duplicate(alloc)?)),
+        }
+    }
+}

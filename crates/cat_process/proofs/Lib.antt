@@ -1,0 +1,4 @@
+pub mod Trees
+pub mod Repeats
+pub mod Cases
+pub mod OnShelf

@@ -1,0 +1,4 @@
+pub mod Parts
+pub mod Stays
+pub mod Moves
+pub mod Whole

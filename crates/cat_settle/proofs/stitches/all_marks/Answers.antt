@@ -1,0 +1,15 @@
+use Rattle.std.proofs.Common.{ap, sym, ◌∙◌}
+use Rattle.cat_model.specs.Settle.{try_stitches}
+use Rattle.cat_settle.proofs.Parts.{came_same, cut_here, rests}
+use Rattle.cat_settle.proofs.Stays.{marks_stays}
+use Rattle.cat_settle.proofs.stitches.all_marks.Goals as goal
+
+pub returns-in-Ok-clause-came : goal.returns-in-Ok-clause-came
+returns-in-Ok-clause-came g c =
+    came_same c.all_stitched.result _ _ (λ limit. ap (λ l. try_stitches g.L.Layers.rules c.args.settings.now limit l c.args.p.now) (c.as_slice.ensures ∙ c.in-Ok.ensures)) c.all_stitched.new.p c.all_stitched.ensures.came
+
+pub returns-in-Err-clause-came : goal.returns-in-Err-clause-came
+returns-in-Err-clause-came g c = cut_here _ (marks_stays g.L.Layers.rules c.args.settings.now) c.args.p.now
+
+pub returns-in-Err-clause-goes : goal.returns-in-Err-clause-goes
+returns-in-Err-clause-goes g c = rests g.L.Layers.rules c.args.p.now

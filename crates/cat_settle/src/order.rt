@@ -1,0 +1,178 @@
+//! The orders of a settle, and which records are due.
+ghost use Rattle.std.specs.Prelude.{◌≡◌, ◌≤◌, IfOk, ℕ, List, Option, Bool, min, length, option_map, option_and_then};
+ghost use Rattle.cat_types.specs.Table.{get, keys};
+ghost use Rattle.cat_model.specs.declared.types.Order.{Order as OrderValue};
+ghost use Rattle.cat_model.specs.declared.types.StitchOrder.{StitchOrder as StitchOrderValue};
+ghost use Rattle.cat_model.specs.declared.types.State.{State as StateValue};
+ghost use Rattle.cat_model.specs.Catalogue.{Rules, parts};
+ghost use Rattle.cat_model.specs.Settle.{counted, due_refs, is_due, mark_order, order, order_with, stitch_order};
+ghost use Rattle.cat_model.specs.Step.Event.{Finish, PutStitch, TakeAt};
+ghost use Rattle.cat_settle.specs.Part.{moved};
+
+use cat_events::stepped::Stepped;
+use cat_events::stitch::present_parts;
+use cat_hold::build::{Passes, filtered};
+use cat_hold::layers::Layers;
+use cat_hold::parts::work_of;
+use cat_model::types::{Lease, Order, Progress, Record, State, StitchOrder, Stop};
+use cat_ref::reference::Ref;
+use cat_types::parts::Parts;
+use cat_types::table::{Copied, Listing};
+use cat_types::work::Work;
+use std::alloc::{AllocError, Global};
+
+/// A settle that comes to so many events is cut as for want of memory. None does: each lease draws a token below 2^59.
+pub const MOST_EVENTS: u64 = u64::MAX - 1;
+
+/// One more, up to the greatest number of 64 bits.
+pub fn counted(count: u64) -> u64
+    ensures { result ≡ counted count }
+{
+    if count < u64::MAX { count + 1 } else { count }
+}
+
+/// A take stands, or stops the settle.
+pub fn lease_moved(step: Stepped, p: &mut Progress)
+    ensures { (r : List ℕ) (now : ℕ) → p.new ≡ moved (TakeAt r now) step p.old }
+{
+    match step {
+        Stepped::Acts(state) => {
+            p.state = state;
+            p.leases = counted(p.leases);
+            p.events = counted(p.events);
+        }
+        Stepped::Refused(fault) => p.stop = Some(Stop::Refused(fault)),
+    }
+}
+
+/// A finish stands, or stops the settle.
+pub fn finish_moved(step: Stepped, p: &mut Progress)
+    ensures { (x : OrderValue) (now : ℕ) → p.new ≡ moved (Finish x now) step p.old }
+{
+    match step {
+        Stepped::Acts(state) => {
+            p.state = state;
+            p.events = counted(p.events);
+        }
+        Stepped::Refused(fault) => p.stop = Some(Stop::Refused(fault)),
+    }
+}
+
+/// A stitch stands, or stops the settle.
+pub fn stitch_moved(step: Stepped, p: &mut Progress)
+    ensures { (x : StitchOrderValue) → p.new ≡ moved (PutStitch x) step p.old }
+{
+    match step {
+        Stepped::Acts(state) => {
+            p.state = state;
+            p.stitched = counted(p.stitched);
+            p.events = counted(p.events);
+        }
+        Stepped::Refused(fault) => p.stop = Some(Stop::Refused(fault)),
+    }
+}
+
+fn ordered(
+    alloc: Global,
+    reference: &Ref,
+    lease: Option<&Lease>,
+    work: Option<Work>,
+) -> Result<Option<Order>, AllocError>
+    ensures { IfOk result (λ o. o ≡ order_with reference.now (option_map (λ x. x.now) lease.entry) work) }
+{
+    match (lease, work) {
+        (Some(lease), Some(work)) => Ok(Some(Order {
+            reference: reference.duplicate(alloc)?,
+            token: lease.token,
+            work,
+        })),
+        _ => Ok(None),
+    }
+}
+
+fn lease_of<'a>(m: &'a State, reference: &Ref) -> Option<&'a Lease>
+    ensures { option_map (λ x. x.now) result ≡ option_and_then (λ x. x.lease) (get m.now.records reference.now) }
+{
+    match m.records.get(reference) {
+        None => None,
+        Some(kept) => kept.lease.as_ref(),
+    }
+}
+
+/// The order of the present lease of a reference.
+pub fn order_of<L: Layers>(
+    alloc: Global,
+    layers: &L,
+    m: &State,
+    reference: &Ref,
+) -> Result<Option<Order>, AllocError>
+    ensures { IfOk result (λ o. o ≡ order L.rules m.now reference.now) }
+{
+    let work = work_of(alloc, layers, m, reference)?;
+    ordered(alloc, reference, lease_of(m, reference), work)
+}
+
+fn stitch_ordered(
+    alloc: Global,
+    reference: &Ref,
+    ticket: Option<&u64>,
+    parts: Option<Parts>,
+) -> Result<Option<StitchOrder>, AllocError>
+    ensures { IfOk result (λ o. (rules : Rules) (m : StateValue) → o ≡ stitch_order rules m reference.now (option_map (λ x. x.now) ticket.entry) parts) }
+{
+    match (ticket, parts) {
+        (Some(ticket), Some(parts)) => Ok(Some(StitchOrder {
+            reference: reference.duplicate(alloc)?,
+            ticket: *ticket,
+            parts,
+        })),
+        _ => Ok(None),
+    }
+}
+
+/// The order of the present mark of a reference.
+pub fn stitch_order_of<L: Layers>(
+    alloc: Global,
+    layers: &L,
+    m: &State,
+    reference: &Ref,
+) -> Result<Option<StitchOrder>, AllocError>
+    ensures { IfOk result (λ o. o ≡ mark_order L.rules m.now reference.now) }
+{
+    let parts = present_parts(alloc, layers, m, reference)?;
+    let given = stitch_ordered(alloc, reference, m.marks.get(reference), parts)?;
+    Ok(given)
+}
+
+/// Whether a record's due moment has come.
+pub fn due(now: u64, kept: Option<&Record>) -> bool
+    ensures { result ≡ is_due now (option_map (λ x. x.now) kept.entry) }
+{
+    match kept {
+        None => false,
+        Some(kept) => kept.due <= now,
+    }
+}
+
+#[derive(Drop)]
+struct IsDue<'a> {
+    now: u64,
+    m: &'a State,
+}
+
+impl Passes<Ref> for IsDue<'_> {
+    ghost passes = { λ s r. is_due s.now (get s.m.now.records r) };
+
+    fn test(&self, _alloc: Global, key: &Ref) -> Result<bool, AllocError> {
+        Ok(due(self.now, self.m.records.get(key)))
+    }
+}
+
+/// The references whose records are due, in order.
+pub fn refs_due(alloc: Global, now: u64, m: &State) -> Result<Listing<Ref>, AllocError>
+    ensures { IfOk result (λ l. l ≡ due_refs now m.now) }
+{
+    let all = m.records.keys(alloc)?;
+    let test = IsDue { now, m };
+    filtered(alloc, all.as_slice(), &test)
+}

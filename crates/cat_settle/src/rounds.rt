@@ -1,0 +1,65 @@
+//! Rounds of takes and finishes.
+ghost use Rattle.std.specs.Prelude.{◌≡◌, false, IfOk, IfErr, ℕ, Option, Bool};
+ghost use Rattle.cat_model.specs.Settle.{begun_round, due_refs, is_ended, try_round};
+ghost use Rattle.cat_model.specs.Sound.{AreSmall};
+ghost use Rattle.cat_events.specs.Stepped.{AreMoments};
+ghost use Rattle.cat_settle.specs.Part.{Came, CameRounds, Goes};
+
+use crate::order::{counted, refs_due};
+use crate::turn::all_turned;
+use cat_hold::layers::Layers;
+use cat_model::types::{Progress, Settings};
+use cat_ref::reference::Ref;
+use cat_types::table::Listing;
+use std::alloc::{AllocError, Global};
+
+// A round over the records that are due, of which there are some.
+fn one_round<L: Layers>(
+    alloc: Global,
+    layers: &L,
+    settings: &Settings,
+    now: u64,
+    refs: &Listing<Ref>,
+    p: &mut Progress,
+) -> Result<(), AllocError>
+    requires small { AreSmall p.old.state }
+    requires moments { AreMoments settings.now now }
+    requires due { refs.now ≡ due_refs now p.old.state }
+    requires going { is_ended now p.old ≡ false }
+    ensures came { Came result (λ limit. try_round L.rules settings.now now limit p.old) p.new }
+    ensures small { AreSmall p.new.state }
+    ensures goes { Goes L.rules p.old p.new }
+{
+    p.rounds = counted(p.rounds);
+    all_turned(alloc, layers, settings, now, refs.as_slice(), p)
+}
+
+/// Rounds until for the first time no record is due or the settle is stopped.
+pub fn all_rounds<L: Layers>(
+    alloc: Global,
+    layers: &L,
+    settings: &Settings,
+    now: u64,
+    p: &mut Progress,
+) -> Result<(), AllocError>
+    requires small { AreSmall p.old.state }
+    requires moments { AreMoments settings.now now }
+    ensures came { CameRounds L.rules settings.now now p.old result p.new }
+    ensures small { AreSmall p.new.state }
+    ensures goes { Goes L.rules p.old p.new }
+{
+    'rounds: loop {
+        match refs_due(alloc, now, &p.state) {
+            Ok(refs) => {
+                if p.stop.is_some() || refs.len() == 0 {
+                    return Ok(());
+                }
+                match one_round(alloc, layers, settings, now, &refs, p) {
+                    Ok(()) => {}
+                    Err(refused) => return Err(refused),
+                }
+            }
+            Err(refused) => return Err(refused),
+        }
+    }
+}

@@ -1,0 +1,3 @@
+mod Digits
+mod Shown
+mod Ids

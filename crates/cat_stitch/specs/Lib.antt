@@ -1,0 +1,3 @@
+pub mod Uid
+pub mod Issues
+pub mod Document
