@@ -1,0 +1,22 @@
+-- How much input is stored.
+use Rattle.std.specs.Prelude.{ℕ, ◌+◌, ◌^◌, length, min}
+use Rattle.std.specs.List.{sum_by}
+use Rattle.cat_tree.specs.Text.{text_of}
+use Rattle.cat_types.specs.Table.{Text, Map}
+use Rattle.cat_types.specs.declared.input.Offered.{Offered}
+use Rattle.cat_model.specs.declared.types.ProviderInputs.{ProviderInputs}
+
+-- the length of the compact text of an item's tree
+abbrev pub item_bytes : Text × Offered → ℕ
+item_bytes e = length (text_of e.1.tree)
+
+abbrev pub provider_bytes : Text × ProviderInputs → ℕ
+provider_bytes e = sum_by item_bytes e.1.items
+
+-- the lengths of a shelf name and its text
+abbrev pub entry_bytes : Text × Text → ℕ
+entry_bytes e = length e.0 + length e.1
+
+-- the stored input bytes: the compact texts of all provider items, and all names and texts of the shelf; at most 2 ^ 62
+abbrev pub stored_bytes : Map ProviderInputs → Map Text → ℕ
+stored_bytes providers shelf = min (sum_by provider_bytes providers + sum_by entry_bytes shelf) (2 ^ 62)
