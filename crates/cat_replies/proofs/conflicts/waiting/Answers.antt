@@ -1,0 +1,21 @@
+use Rattle.std.proofs.Common.{◌≡◌, suc, ◌-◌, arith, ap, map, ◌∙◌}
+use Rattle.cat_types.specs.Table.{put_some}
+use Rattle.cat_model.specs.Catalogue.{row_at}
+use Rattle.cat_model.specs.Reply.{RowPlace, place_cmp, waits}
+use Rattle.cat_replies.specs.Shown as seen
+use Rattle.cat_replies.proofs.Waiting.{key_of, table_step}
+use Rattle.cat_replies.proofs.conflicts.waiting.Goals as goal
+
+pub loop-place-preserved : goal.loop-place-preserved
+loop-place-preserved c =
+    let l = c.loop-place in
+    let m = c.args.state.now in
+    let e = c.index-rows-place.result in
+    let f = λ (k : RowPlace). waits m k.1 (row_at m.rows k.1) in
+    let up : l.place ≡ suc (l.place - 1) = omega arith in (
+      omega arith,
+      c.in_ok-put_waiting.ensures
+          ∙ (ap (λ o. put_some place_cmp (key_of e) o (map seen.waiting l.found)) c.waits.ensures
+          ∙ (ap (put_some place_cmp (key_of e) (f (key_of e))) l.invariant.1
+          ∙ table_step f c.as_slice-rows.result.now (l.place - 1) l.place e up (omega arith) c.index-rows-place.is)),
+    )

@@ -1,0 +1,53 @@
+-- The replies to lines that are no commands.
+use Rattle.std.specs.Prelude.{ℕ, List, [], ◌∷◌, codes}
+use Rattle.std.specs.Fmt.{decimal}
+use Rattle.cat_tree.specs.declared.read.TreeFault.{TreeFault}
+use Rattle.cat_tree.specs.declared.read.TreeFault.TheVariants as tree
+use Rattle.cat_ref.specs.declared.fault.RefFault.{RefFault}
+use Rattle.cat_ref.specs.declared.fault.RefFault.TheVariants as ref
+use Rattle.cat_inputs.specs.Faults.{place_text}
+use Rattle.cat_inputs.specs.declared.fault.InputFault.{InputFault}
+use Rattle.cat_inputs.specs.declared.fault.InputFault.TheVariants as input
+use Rattle.cat_replies.specs.Events.{no_memory, said}
+use Rattle.cat_replies.specs.Line.{line}
+
+-- no command has the word
+abbrev pub bad_word : List ℕ
+bad_word = said (codes "refused word")
+
+-- the arguments are of another number or form
+abbrev pub bad_arguments : List ℕ
+bad_arguments = said (codes "refused arguments")
+
+-- the line is too long
+abbrev pub long_line : List ℕ
+long_line = said (codes "refused long")
+
+-- the bytes are no tree
+abbrev pub no_tree : TreeFault → List ℕ
+no_tree tree.Syntax = said (codes "refused json syntax")
+no_tree tree.Fraction = said (codes "refused json fraction")
+no_tree tree.NoMemory = no_memory
+
+-- the name of a fault of a reference
+abbrev pub ref_text : RefFault → List ℕ
+ref_text ref.Shape = codes "Shape"
+ref_text ref.NoKind = codes "NoKind"
+ref_text ref.BadKind = codes "BadKind"
+ref_text ref.BadNamespace = codes "BadNamespace"
+ref_text ref.BadName = codes "BadName"
+ref_text ref.NoMemory = codes "NoMemory"
+
+-- words and a place
+abbrev pub at : List ℕ → ℕ → List ℕ
+at words place = line (words ∷ decimal place ∷ [])
+
+-- the body is no mutation, with the field or the place of the item at fault
+abbrev pub no_mutation : InputFault → List ℕ
+no_mutation (input.Json fault) = no_tree fault
+no_mutation (input.Shape place) = line (codes "refused shape " ∷ place_text place ∷ [])
+no_mutation input.TooMany = said (codes "refused too_many")
+no_mutation (input.Deep place) = at (codes "refused deep ") place
+no_mutation (input.NoRef place fault) = line (codes "refused no_ref " ∷ decimal place ∷ codes " " ∷ ref_text fault ∷ [])
+no_mutation (input.Duplicate place) = at (codes "refused duplicate ") place
+no_mutation input.NoMemory = no_memory

@@ -1,0 +1,90 @@
+//! Replies to lines that are no commands.
+ghost use Rattle.std.specs.Prelude.{◌≡◌};
+ghost use Rattle.cat_replies.specs.Faults as spec;
+ghost use Rattle.cat_replies.specs.Line.{Appends};
+
+use crate::events::push_no_memory;
+use crate::line::{Piece, push_line};
+use cat_inputs::fault::InputFault;
+use cat_ref::fault::RefFault;
+use cat_tree::read::TreeFault;
+use std::alloc::AllocError;
+
+/// Appends that no command has the word of the line.
+pub fn push_bad_word(out: &mut Vec<u8>) -> Result<(), AllocError>
+    ensures { Appends out.old out.new result spec.bad_word }
+{
+    push_line(out, &[Piece::Text("refused word")])
+}
+
+/// Appends that the arguments of the line are of another number or form.
+pub fn push_bad_arguments(out: &mut Vec<u8>) -> Result<(), AllocError>
+    ensures { Appends out.old out.new result spec.bad_arguments }
+{
+    push_line(out, &[Piece::Text("refused arguments")])
+}
+
+/// Appends that the line is too long.
+pub fn push_long_line(out: &mut Vec<u8>) -> Result<(), AllocError>
+    ensures { Appends out.old out.new result spec.long_line }
+{
+    push_line(out, &[Piece::Text("refused long")])
+}
+
+fn push_no_tree(out: &mut Vec<u8>, fault: TreeFault) -> Result<(), AllocError>
+    ensures { Appends out.old out.new result (spec.no_tree fault) }
+{
+    match fault {
+        TreeFault::Syntax => push_line(out, &[Piece::Text("refused json syntax")]),
+        TreeFault::Fraction => push_line(out, &[Piece::Text("refused json fraction")]),
+        TreeFault::NoMemory => push_no_memory(out),
+    }
+}
+
+/// The name of a fault of a reference, as `NoKind`.
+pub fn ref_text(fault: RefFault) -> &'static str
+    ensures { result.now ≡ spec.ref_text fault }
+{
+    match fault {
+        RefFault::Shape => "Shape",
+        RefFault::NoKind => "NoKind",
+        RefFault::BadKind => "BadKind",
+        RefFault::BadNamespace => "BadNamespace",
+        RefFault::BadName => "BadName",
+        RefFault::NoMemory => "NoMemory",
+    }
+}
+
+fn push_at(out: &mut Vec<u8>, words: &str, place: usize) -> Result<(), AllocError>
+    ensures { Appends out.old out.new result (spec.at words.now place) }
+{
+    push_line(out, &[Piece::Text(words), Piece::Number(place as u64)])
+}
+
+/// Appends why a body is no mutation, as `refused deep 3`.
+pub fn push_no_mutation(out: &mut Vec<u8>, fault: InputFault) -> Result<(), AllocError>
+    ensures { Appends out.old out.new result (spec.no_mutation fault) }
+{
+    match fault {
+        InputFault::Json(fault) => push_no_tree(out, fault),
+        InputFault::Shape(place) => {
+            push_line(
+                out,
+                &[Piece::Text("refused shape "), Piece::Text(place.text())],
+            )
+        }
+        InputFault::TooMany => push_line(out, &[Piece::Text("refused too_many")]),
+        InputFault::Deep(place) => push_at(out, "refused deep ", place),
+        InputFault::NoRef(place, fault) => push_line(
+            out,
+            &[
+                Piece::Text("refused no_ref "),
+                Piece::Number(place as u64),
+                Piece::Text(" "),
+                Piece::Text(ref_text(fault)),
+            ],
+        ),
+        InputFault::Duplicate(place) => push_at(out, "refused duplicate ", place),
+        InputFault::NoMemory => push_no_memory(out),
+    }
+}

@@ -1,0 +1,202 @@
+//! Replies that list what the catalogue has, as JSON.
+ghost use Rattle.std.specs.Prelude.{◌≡◌, ◌++◌, ◌∷◌, [], IfOk, OnOk, OnErr, map, string_bytes};
+ghost use Rattle.std.specs.List.{list_any};
+ghost use Rattle.cat_model.specs.Reply.{is_error};
+ghost use Rattle.cat_tree.specs.View.{data_of};
+ghost use Rattle.cat_replies.specs.Lists as spec;
+ghost use Rattle.cat_replies.specs.Shown as seen;
+
+use crate::conflicts::{Conflict, conflicts};
+use crate::line::push_line;
+use cat_model::types::{Origin, Orphan, Record, Row, State};
+use cat_ref::reference::Ref;
+use cat_stitch::issues::issue_items;
+use cat_stitch::make::{empty_map, with_words, words};
+use cat_tree::clone::copy;
+use cat_tree::edit::with_key;
+use cat_tree::tree::{Tree, Trees};
+use cat_tree::write::write;
+use cat_types::issue::{Issue, Level};
+use cat_types::node::Node;
+use cat_types::table::Table;
+use std::alloc::{AllocError, Global};
+
+/// Appends the compact text of a tree, and LF. Where memory is wanted, nothing is appended.
+pub fn push_tree(alloc: Global, out: &mut Vec<u8>, tree: &Tree) -> Result<(), AllocError>
+    ensures ok { OnOk result (out.new.items ≡ out.old.items ++ spec.shown (data_of tree.now)) }
+    ensures err { OnErr result (out.new.items ≡ out.old.items) }
+{
+    let start = out.len();
+    write(alloc, tree, out)?;
+    let ended = push_line(out, &[]);
+    if ended.is_err() {
+        out.truncate(start);
+    }
+    ended
+}
+
+/// Appends the list of the documents, in order of reference, and LF. Each document is copied on the way.
+pub fn push_documents(
+    alloc: Global,
+    out: &mut Vec<u8>,
+    documents: &Table<Ref, Node>,
+) -> Result<(), AllocError>
+    ensures ok { OnOk result (out.new.items
+        ≡ out.old.items ++ spec.shown (spec.documents_listed documents.now)) }
+    ensures err { OnErr result (out.new.items ≡ out.old.items) }
+{
+    let tree = documents_listed(alloc, documents.as_slice())?;
+    push_tree(alloc, out, &tree)
+}
+
+/// Appends the list of the orphans' references, in order, and LF.
+pub fn push_orphans(
+    alloc: Global,
+    out: &mut Vec<u8>,
+    orphans: &Table<Ref, Orphan>,
+) -> Result<(), AllocError>
+    ensures ok { OnOk result (out.new.items
+        ≡ out.old.items ++ spec.shown (spec.orphans_listed orphans.now)) }
+    ensures err { OnErr result (out.new.items ≡ out.old.items) }
+{
+    let tree = orphans_listed(alloc, orphans.as_slice())?;
+    push_tree(alloc, out, &tree)
+}
+
+/// Appends the list of the records that have an issue of level error, in order of reference, each with all its status
+/// items, and LF.
+pub fn push_failures(
+    alloc: Global,
+    out: &mut Vec<u8>,
+    records: &Table<Ref, Record>,
+) -> Result<(), AllocError>
+    ensures ok { OnOk result (out.new.items
+        ≡ out.old.items ++ spec.shown (spec.failures_listed records.now)) }
+    ensures err { OnErr result (out.new.items ≡ out.old.items) }
+{
+    let tree = failures_listed(alloc, records.as_slice())?;
+    push_tree(alloc, out, &tree)
+}
+
+/// Appends the list of the conflicts, by reference and arrival, and LF. A conflict is a row that waits with another key
+/// than the row that holds its reference.
+pub fn push_conflicts(alloc: Global, out: &mut Vec<u8>, state: &State) -> Result<(), AllocError>
+    ensures ok { OnOk result (out.new.items
+        ≡ out.old.items ++ spec.shown (spec.conflicts_listed state.now)) }
+    ensures err { OnErr result (out.new.items ≡ out.old.items) }
+{
+    let found = conflicts(alloc, state)?;
+    let tree = conflicts_shown(alloc, found.as_slice())?;
+    push_tree(alloc, out, &tree)
+}
+
+fn documents_listed(alloc: Global, documents: &[(Ref, Node)]) -> Result<Tree, AllocError>
+    ensures { IfOk result (λ t. data_of t ≡ spec.documents_listed documents.now) }
+{
+    let mut trees = Vec::with_capacity(alloc, documents.len())?;
+    for (_, document) in documents {
+        trees.push(copy(alloc, document.tree())?)?;
+    }
+    Ok(Tree::List(Trees::from_vec(trees)))
+}
+
+fn orphans_listed(alloc: Global, orphans: &[(Ref, Orphan)]) -> Result<Tree, AllocError>
+    ensures { IfOk result (λ t. data_of t ≡ spec.orphans_listed orphans.now) }
+{
+    let mut trees = Vec::with_capacity(alloc, orphans.len())?;
+    for (reference, _) in orphans {
+        trees.push(words(alloc, reference.as_str())?)?;
+    }
+    Ok(Tree::List(Trees::from_vec(trees)))
+}
+
+fn failures_listed(alloc: Global, records: &[(Ref, Record)]) -> Result<Tree, AllocError>
+    ensures { IfOk result (λ t. data_of t ≡ spec.failures_listed records.now) }
+{
+    let mut trees = Vec::new(alloc);
+    for (reference, record) in records {
+        push_failure(alloc, &mut trees, reference, record)?;
+    }
+    Ok(Tree::List(Trees::from_vec(trees)))
+}
+
+// Adds the record where it failed.
+fn push_failure(
+    alloc: Global,
+    trees: &mut Vec<Tree>,
+    reference: &Ref,
+    record: &Record,
+) -> Result<(), AllocError>
+    ensures { OnOk result (seen.trees trees.new
+        ≡ seen.trees trees.old ++ spec.failures_in ((reference.now, «record».now) ∷ [])) }
+{
+    if has_error(record.issues.as_slice()) {
+        trees.push(failure(alloc, reference, record)?)?;
+    }
+    Ok(())
+}
+
+// Whether an issue has the level error.
+fn has_error(issues: &[Issue]) -> bool
+    ensures { result ≡ list_any is_error issues.now }
+{
+    issues.iter().any(|issue| issue.level == Level::Error)
+}
+
+// A record that failed, with all its status items.
+fn failure(alloc: Global, reference: &Ref, record: &Record) -> Result<Tree, AllocError>
+    ensures { IfOk result (λ t. data_of t ≡ spec.failure (reference.now, «record».now)) }
+{
+    let items = issue_items(alloc, record.issues.as_slice())?;
+    let tree = with_words(alloc, empty_map(alloc), "entityRef", reference.as_str())?;
+    with_key(alloc, tree, "items", items)
+}
+
+fn conflicts_shown(alloc: Global, conflicts: &[Conflict<'_>]) -> Result<Tree, AllocError>
+    ensures { IfOk result (λ t. data_of t ≡ spec.conflicts_shown (map seen.conflict conflicts.now)) }
+{
+    let mut trees = Vec::with_capacity(alloc, conflicts.len())?;
+    for conflict in conflicts {
+        trees.push(conflict_shown(alloc, conflict)?)?;
+    }
+    Ok(Tree::List(Trees::from_vec(trees)))
+}
+
+// A conflict, by its reference and its two rows.
+fn conflict_shown(alloc: Global, conflict: &Conflict<'_>) -> Result<Tree, AllocError>
+    ensures { IfOk result (λ t. data_of t ≡ spec.conflict_shown (seen.conflict conflict.now)) }
+{
+    let holder = row_shown(alloc, conflict.holder)?;
+    let waiting = row_shown(alloc, conflict.waiting)?;
+    let reference = conflict.waiting.reference.as_str();
+    let tree = with_words(alloc, empty_map(alloc), "entityRef", reference)?;
+    let tree = with_key(alloc, tree, "holder", holder)?;
+    with_key(alloc, tree, "waiting", waiting)
+}
+
+// A row, by its key and its origin.
+fn row_shown(alloc: Global, row: &Row) -> Result<Tree, AllocError>
+    ensures { IfOk result (λ t. data_of t ≡ spec.row_shown row.now) }
+{
+    let origin = origin_text(alloc, &row.origin)?;
+    let tree = with_words(alloc, empty_map(alloc), "key", row.offered.key.as_str())?;
+    with_words(alloc, tree, "origin", origin.as_str())
+}
+
+// `provider:` and a name, or `entity:` and a reference.
+fn origin_text(alloc: Global, origin: &Origin) -> Result<String, AllocError>
+    ensures { IfOk result (λ s. string_bytes s ≡ spec.origin_text origin.now) }
+{
+    match origin {
+        Origin::Provider(name) => joined(alloc, "provider:", name.as_str()),
+        Origin::Entity(reference) => joined(alloc, "entity:", reference.as_str()),
+    }
+}
+
+fn joined(alloc: Global, first: &str, second: &str) -> Result<String, AllocError>
+    ensures { IfOk result (λ s. string_bytes s ≡ first.now ++ second.now) }
+{
+    let mut text = String::from_str(alloc, first)?;
+    text.push_str(second)?;
+    Ok(text)
+}

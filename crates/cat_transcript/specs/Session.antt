@@ -1,0 +1,199 @@
+-- A session: what a line does to the catalogue, and the reply to it.
+use Rattle.std.specs.Prelude.{ℕ, nat_eq, cond, List, [], ◌∷◌, ◌++◌}
+use Rattle.std.specs.declared.option.Option.{Option}
+use Rattle.std.specs.declared.option.Option.TheVariants.{None, Some}
+use Rattle.std.specs.declared.result.Result.{Result}
+use Rattle.std.specs.declared.result.Result.TheVariants.{Ok, Err}
+use Rattle.std.specs.Ordering.{nat_cmp}
+use Rattle.cat_tree.specs.Data.{Data}
+use Rattle.cat_types.specs.Table.{find, put, get}
+use Rattle.cat_transcript.specs.declared.state.SessionState.{SessionState}
+use Rattle.cat_lines.specs.Word.{Word, plain, memory, cut}
+use Rattle.cat_line.specs.Lines.{line_of}
+use Rattle.cat_line.specs.declared.line.Line.{Line}
+use Rattle.cat_line.specs.declared.line.Line.TheVariants as asks
+use Rattle.cat_line.specs.declared.fault.LineFault.{LineFault}
+use Rattle.cat_line.specs.declared.fault.LineFault.TheVariants.{LongLine, BadWord, BadArguments, Input, NoMemory}
+use Rattle.cat_model.specs.Catalogue.{Rules}
+use Rattle.cat_model.specs.declared.types.State.{State}
+use Rattle.cat_model.specs.declared.types.Settings.{Settings}
+use Rattle.cat_model.specs.declared.types.Order.{Order}
+use Rattle.cat_model.specs.declared.types.StitchOrder.{StitchOrder}
+use Rattle.cat_model.specs.declared.types.Fault.{Fault}
+use Rattle.cat_model.specs.declared.types.Progress.{Progress}
+use Rattle.cat_model.specs.declared.types.Stop.{Stop}
+use Rattle.cat_model.specs.Given.{given}
+use Rattle.cat_model.specs.Step.{Event, refusal, step}
+use Rattle.cat_model.specs.Step.Event.{Mutate, ShelfPut, ShelfDrop, Refresh, Forget, Take, Finish, PutStitch}
+use Rattle.cat_model.specs.Settle.{try_settle}
+use Rattle.cat_model.specs.declared.types.Stop.TheVariants.{Refused, Limit}
+use Rattle.cat_model.specs.declared.types.Fault.TheVariants.{OldSerial, NotFound, TooLarge, Spent}
+use Rattle.cat_model.specs.Reply as model
+use Rattle.cat_replies.specs.Events as say
+use Rattle.cat_replies.specs.Faults as faults
+use Rattle.cat_replies.specs.Lists.{shown, documents_listed, orphans_listed, failures_listed, conflicts_listed}
+
+-- ---- what a line does
+
+abbrev pub with_state : State → SessionState → SessionState
+with_state n m = record m { state = n }
+
+-- an event of the catalogue
+abbrev pub after_event : Rules → Settings → Event → SessionState → SessionState
+after_event rules s e m = with_state (step rules s e m.state) m
+
+-- the first of the orders with this token
+abbrev pub order_numbered : ℕ → List Order → Option Order
+order_numbered token [] = None
+order_numbered token (x ∷ xs) = cond (nat_eq x.token token) (Some x) (order_numbered token xs)
+
+-- an order is kept after those that were handed out before
+abbrev pub add_order : Option Order → List Order → List Order
+add_order None xs = xs
+add_order (Some x) xs = xs ++ x ∷ []
+
+-- the order that a take gives where it isn't refused
+abbrev pub unless_refused : Option Fault → Option Order → Option Order
+unless_refused None order = order
+unless_refused (Some fault) order = None
+
+abbrev pub order_given : Rules → Settings → SessionState → Option Order
+order_given rules s m = unless_refused (refusal rules s (Take m.now) m.state) (model.taken rules s m.now m.state)
+
+abbrev pub after_take : Rules → Settings → SessionState → SessionState
+after_take rules s m = record (after_event rules s (Take m.now) m) { orders = add_order (order_given rules s m) m.orders }
+
+abbrev pub after_finish : Rules → Settings → Option Order → SessionState → SessionState
+after_finish rules s None m = m
+after_finish rules s (Some x) m = after_event rules s (Finish x m.now) m
+
+-- a stitch order is kept under its ticket
+abbrev pub with_stitch : Option StitchOrder → SessionState → SessionState
+with_stitch None m = m
+with_stitch (Some x) m = record m { stitches = put nat_cmp x.ticket x m.stitches }
+
+abbrev pub after_place : Rules → Settings → Option StitchOrder → SessionState → SessionState
+after_place rules s None m = m
+after_place rules s (Some x) m = after_event rules s (PutStitch x) m
+
+-- a settle has no limit, but where it was cut for want of memory
+abbrev pub limit_of : Word → Option ℕ
+limit_of plain = None
+limit_of memory = None
+limit_of (cut n) = Some n
+
+abbrev pub settled : Rules → Settings → Word → SessionState → Progress
+settled rules s word m = try_settle rules s m.now (limit_of word) m.state
+
+abbrev pub after_reading : Rules → Settings → Word → Line → SessionState → SessionState
+after_reading rules s word (asks.Mutate provider mutation) m = after_event rules s (Mutate provider (given provider mutation)) m
+after_reading rules s word (asks.ShelfPut name text) m = after_event rules s (ShelfPut name text) m
+after_reading rules s word (asks.ShelfDrop name) m = after_event rules s (ShelfDrop name) m
+after_reading rules s word (asks.Refresh r) m = after_event rules s (Refresh r) m
+after_reading rules s word (asks.Forget r) m = after_event rules s (Forget r) m
+after_reading rules s word (asks.Clock now) m = record m { now = now }
+after_reading rules s word asks.Take m = after_take rules s m
+after_reading rules s word (asks.Finish token) m = after_finish rules s (order_numbered token m.orders) m
+after_reading rules s word (asks.Stitch after) m = with_stitch (model.next_stitch rules m.state after) m
+after_reading rules s word (asks.Place ticket) m = after_place rules s (find nat_cmp ticket m.stitches) m
+after_reading rules s word asks.Settle m = with_state (settled rules s word m).state m
+after_reading rules s word asks.Quiet m = m
+after_reading rules s word asks.State m = m
+after_reading rules s word (asks.Get r) m = m
+after_reading rules s word asks.List m = m
+after_reading rules s word asks.Conflicts m = m
+after_reading rules s word asks.Failed m = m
+after_reading rules s word asks.Orphans m = m
+
+abbrev pub after_result : Rules → Settings → Word → Result Line LineFault → SessionState → SessionState
+after_result rules s word (Ok line) m = after_reading rules s word line m
+after_result rules s word (Err fault) m = m
+
+-- the session after a line: what has no reading changes nothing
+unfoldable pub session_after : Rules → Settings → SessionState → Word → List ℕ → SessionState
+session_after rules s m word line = after_result rules s word (line_of line) m
+
+-- ---- the reply to a line
+
+-- a refusal, or the reply to what isn't refused
+abbrev pub or_refused : Option Fault → List ℕ → List ℕ
+or_refused None reply = reply
+or_refused (Some fault) reply = say.refused fault
+
+abbrev pub event_reply : Rules → Settings → Event → SessionState → List ℕ → List ℕ
+event_reply rules s e m reply = or_refused (refusal rules s e m.state) reply
+
+abbrev pub order_reply : Option Order → List ℕ
+order_reply None = say.nothing
+order_reply (Some x) = say.ordered x.token x.reference
+
+-- an order that was handed out is processed anew
+abbrev pub finish_reply : Rules → Settings → Option Order → SessionState → List ℕ
+finish_reply rules s None m = say.unknown
+finish_reply rules s (Some x) m = event_reply rules s (Finish x m.now) m (say.finished (model.finished rules x m.state))
+
+abbrev pub ticket_reply : Option StitchOrder → List ℕ
+ticket_reply None = say.nothing
+ticket_reply (Some x) = say.ticketed x.ticket x.reference
+
+abbrev pub place_reply : Rules → Settings → Option StitchOrder → SessionState → List ℕ
+place_reply rules s None m = say.unknown
+place_reply rules s (Some x) m = event_reply rules s (PutStitch x) m (say.placed (model.placed rules x m.state))
+
+abbrev pub document_reply : Option Data → List ℕ
+document_reply None = say.refused NotFound
+document_reply (Some document) = shown document
+
+-- a settle is refused only where a counter is spent
+abbrev pub cut_reply : ℕ → Fault → List ℕ
+cut_reply events (Spent counter) = say.cut_by_counter events counter
+cut_reply events (OldSerial last) = say.cut_by_memory events
+cut_reply events NotFound = say.cut_by_memory events
+cut_reply events (TooLarge sum) = say.cut_by_memory events
+
+abbrev pub stop_reply : Progress → Option Stop → List ℕ
+stop_reply p None = say.settled (model.counts p)
+stop_reply p (Some (Refused fault)) = cut_reply p.events fault
+stop_reply p (Some Limit) = say.cut_by_memory p.events
+
+-- a settle that was cut for want of memory says how many events stand, and another one how it ended
+abbrev pub settle_reply : Word → Progress → List ℕ
+settle_reply plain p = stop_reply p p.stop
+settle_reply memory p = stop_reply p p.stop
+settle_reply (cut n) p = say.cut_by_memory p.events
+
+abbrev pub reply_to : Rules → Settings → Word → Line → SessionState → List ℕ
+reply_to rules s word (asks.Mutate provider mutation) m = event_reply rules s (Mutate provider (given provider mutation)) m (say.acted (model.acted provider (given provider mutation) m.state))
+reply_to rules s word (asks.ShelfPut name text) m = event_reply rules s (ShelfPut name text) m say.changed
+reply_to rules s word (asks.ShelfDrop name) m = event_reply rules s (ShelfDrop name) m say.changed
+reply_to rules s word (asks.Refresh r) m = event_reply rules s (Refresh r) m say.changed
+reply_to rules s word (asks.Forget r) m = event_reply rules s (Forget r) m say.changed
+reply_to rules s word (asks.Clock now) m = say.changed
+reply_to rules s word asks.Take m = event_reply rules s (Take m.now) m (order_reply (model.taken rules s m.now m.state))
+reply_to rules s word (asks.Finish token) m = finish_reply rules s (order_numbered token m.orders) m
+reply_to rules s word (asks.Stitch after) m = ticket_reply (model.next_stitch rules m.state after)
+reply_to rules s word (asks.Place ticket) m = place_reply rules s (find nat_cmp ticket m.stitches) m
+reply_to rules s word asks.Settle m = settle_reply word (settled rules s word m)
+reply_to rules s word asks.Quiet m = say.quiet (model.is_quiet m.state m.now)
+reply_to rules s word asks.State m = say.counted (model.state_counts m.state m.now)
+reply_to rules s word (asks.Get r) m = document_reply (get m.state.documents r)
+reply_to rules s word asks.List m = shown (documents_listed m.state.documents)
+reply_to rules s word asks.Conflicts m = shown (conflicts_listed m.state)
+reply_to rules s word asks.Failed m = shown (failures_listed m.state.records)
+reply_to rules s word asks.Orphans m = shown (orphans_listed m.state.orphans)
+
+-- the reply to a line that is no command
+abbrev pub line_fault : LineFault → List ℕ
+line_fault LongLine = faults.long_line
+line_fault BadWord = faults.bad_word
+line_fault BadArguments = faults.bad_arguments
+line_fault (Input fault) = faults.no_mutation fault
+line_fault NoMemory = say.no_memory
+
+abbrev pub reply_to_result : Rules → Settings → Word → Result Line LineFault → SessionState → List ℕ
+reply_to_result rules s word (Ok line) m = reply_to rules s word line m
+reply_to_result rules s word (Err fault) m = line_fault fault
+
+-- the reply to a line, its LF at the end
+unfoldable pub session_reply : Rules → Settings → SessionState → Word → List ℕ → List ℕ
+session_reply rules s m word line = reply_to_result rules s word (line_of line) m

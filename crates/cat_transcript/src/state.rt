@@ -1,0 +1,13 @@
+//! What contracts see of a session.
+use cat_model::types::{Order, State, StitchOrder};
+use cat_types::table::{Listing, Table};
+
+/// The catalogue's state, the moment in milliseconds, the orders that were handed out, the oldest first, and the stitch orders
+/// that were handed out, by ticket.
+#[derive(Drop)]
+pub struct SessionState {
+    pub state: State,
+    pub now: u64,
+    pub orders: Listing<Order>,
+    pub stitches: Table<u64, StitchOrder>,
+}
