@@ -4,7 +4,7 @@
 Each kind of line is sent through one session until so many megabytes were sent (100, if nothing is said). The figures are
 megabytes of input a second, over the whole run of the program, and the most memory that it held, in MiB.
 """
-import os, resource, subprocess, sys, time
+import os, subprocess, sys, time
 
 TOP = os.path.dirname(os.path.dirname(os.path.abspath(__file__)))
 PROGRAM = os.path.join(TOP, 'catalogue')
@@ -25,11 +25,13 @@ def run(line, megabytes):
     start = time.time()
     for _ in range(count):
         program.stdin.write(piece)
+    program.stdin.flush()
+    held = next(int(line.split()[1]) for line in open(f'/proc/{program.pid}/status') if line.startswith('VmHWM'))
     program.stdin.close()
-    _, status, used = os.wait4(program.pid, 0)
+    status = program.wait()
     seconds = time.time() - start
     sent = count * len(piece) / 1000000
-    return sent, seconds, used.ru_maxrss / 1024, os.waitstatus_to_exitcode(status)
+    return sent, seconds, held / 1024, status
 
 def main():
     megabytes = int(sys.argv[1]) if len(sys.argv) > 1 else 100

@@ -1,0 +1,25 @@
+-- What changes for references from one table of holders to another.
+use Rattle.std.specs.Prelude.{ℕ, Bool, false, not, nat_eq, List}
+use Rattle.std.specs.declared.option.Option.{Option}
+use Rattle.std.specs.declared.option.Option.TheVariants.{None, Some}
+use Rattle.std.specs.List.{filter}
+use Rattle.cat_types.specs.Table.{get, keys}
+use Rattle.cat_model.specs.Catalogue.{Ref, Holders, held}
+
+-- the references that aren't held before and are after, in order
+abbrev pub newly_held : Holders → Holders → List Ref
+newly_held before after = filter (λ r. not (held before r)) (keys after)
+
+-- whether two rows hold, and they aren't one
+abbrev pub are_others : Option ℕ → Option ℕ → Bool
+are_others None b = false
+are_others (Some a) None = false
+are_others (Some a) (Some b) = not (nat_eq a b)
+
+-- the references that are held before and after, by another row, in order
+abbrev pub held_by_another : Holders → Holders → List Ref
+held_by_another before after = filter (λ r. are_others (get before r) (get after r)) (keys after)
+
+-- the references that are held before and aren't after, in order
+abbrev pub no_longer_held : Holders → Holders → List Ref
+no_longer_held before after = filter (λ r. not (held after r)) (keys before)

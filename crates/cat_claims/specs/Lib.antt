@@ -1,0 +1,4 @@
+pub mod Claims
+pub mod Waiting
+pub mod Change
+pub mod Kept

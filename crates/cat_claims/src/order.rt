@@ -1,0 +1,18 @@
+//! The order of turns: by reference, and then by arrival.
+ghost use Rattle.cat_claims.specs.Waiting.{turn_cmp};
+
+use crate::turn::Turn;
+use cat_types::table::Key;
+use std::cmp::Ordering;
+
+impl Key for Turn {
+    ghost order = { turn_cmp };
+
+    fn compare(&self, other: &Turn) -> Ordering {
+        match self.reference.compare(&other.reference) {
+            Ordering::Less => Ordering::Less,
+            Ordering::Equal => self.arrival.compare(&other.arrival),
+            Ordering::Greater => Ordering::Greater,
+        }
+    }
+}

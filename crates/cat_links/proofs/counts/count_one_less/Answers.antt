@@ -1,0 +1,14 @@
+use Rattle.cat_links.proofs.Relations.{relation_total, relation_antisymmetric}
+use Rattle.cat_links.proofs.counts.count_one_less.Goals as goal
+
+pub put-requires-clause-total : goal.put-requires-clause-total
+put-requires-clause-total c = relation_total
+
+pub put-requires-clause-apart : goal.put-requires-clause-apart
+put-requires-clause-apart c = relation_antisymmetric
+
+pub remove-requires-clause-total : goal.remove-requires-clause-total
+remove-requires-clause-total c = relation_total
+
+pub remove-requires-clause-apart : goal.remove-requires-clause-apart
+remove-requires-clause-apart c = relation_antisymmetric

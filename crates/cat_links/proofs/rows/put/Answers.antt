@@ -1,0 +1,17 @@
+use Rattle.std.proofs.Common.{◌∙◌, subst}
+use Rattle.std.specs.List.{insert}
+use Rattle.cat_links.specs.Rows.{IsAt, IsBetween}
+use Rattle.cat_links.proofs.Placed.{put_at, put_between}
+use Rattle.cat_links.proofs.rows.put.Goals as goal
+
+pub returns-in-Ok : goal.returns-in-Ok
+returns-in-Ok g c =
+    put_at c.requires.total c.requires.apart c.args.key.now c.args.value c.args.rows.now.items c.in-Ok.place c.index_mut.result.now
+    (subst (λ l. IsAt g.K.Key.order c.args.key.now l c.in-Ok.place) c.as_slice.ensures.value c.in-Ok.ensures) c.index_mut.ensures.value
+
+pub returns-in_ok-insert-in-Err : goal.returns-in_ok-insert-in-Err
+returns-in_ok-insert-in-Err g c =
+    c.in_ok-insert-in-Err.ensures.items
+    ∙ ((λ t. insert c.args.rows.now.items c.in-Err.place ((c.in_ok-key-in-Err.ensures ∙ c.in_ok-duplicate-in-Err.ensures) t, c.args.value))
+    ∙ put_between c.requires.total c.requires.apart c.args.key.now c.args.value c.args.rows.now.items c.in-Err.place
+    (subst (λ l. IsBetween g.K.Key.order c.args.key.now l c.in-Err.place) c.as_slice.ensures.value c.in-Err.ensures))

@@ -1,0 +1,27 @@
+-- Changes of what emitters emit, and the sources whose relations change with them.
+use Rattle.std.specs.Prelude.{◌≡◌, ◌≢◌, List, [], ◌∷◌, ◌++◌}
+use Rattle.std.specs.List.{Contains}
+use Rattle.std.specs.List.Sorted.{IsStrictlySortedBy}
+use Rattle.cat_types.specs.Table.{Text, put, text_cmp}
+use Rattle.cat_links.specs.declared.links.EmitChange.{EmitChange}
+use Rattle.cat_links.specs.Links.{Emitted, emitted_by, only_in, relations_of, sources}
+
+-- the table with these changes put in, one after the other
+abbrev pub with_changes : Emitted → List EmitChange → Emitted
+with_changes m [] = m
+with_changes m (c ∷ cs) = with_changes (put text_cmp c.emitter c.relations m) cs
+
+-- the sources of what the emitter of each change begins to emit with it, and of what it no longer emits
+abbrev pub touched : Emitted → List EmitChange → List Text
+touched m [] = []
+touched m (c ∷ cs) = (sources (only_in c.relations (emitted_by m c.emitter)) ++ sources (only_in (emitted_by m c.emitter) c.relations)) ++ touched (put text_cmp c.emitter c.relations m) cs
+
+-- the list is that of exactly the sources whose relations differ between the tables, in order, each once
+pub record AreChanged (before after : Emitted) (changed : List Text) : Type 0 where
+  -- each source of the list has other relations than before
+  pub sound : (source : Text) → Contains changed source → relations_of after source ≢ relations_of before source
+  -- each source that has other relations than before is in the list
+  pub complete : (source : Text) → relations_of after source ≢ relations_of before source → Contains changed source
+  -- a source that isn't in the list has the relations that it had
+  pub others : (source : Text) → (Contains changed source → ⊥) → relations_of after source ≡ relations_of before source
+  pub rises : IsStrictlySortedBy text_cmp changed

@@ -1,0 +1,134 @@
+use cat_core::catalogue::Catalogue;
+use cat_core::fault::CoreFault;
+use cat_fresh::documents::documents_afresh;
+use cat_inputs::form::Form;
+use cat_inputs::input::read_mutation;
+use cat_io::{MemorySink, MemorySource};
+use cat_layers::layered::Layered;
+use cat_model::types::{Settings, State};
+use cat_replies::lists::push_documents;
+use cat_tool::{Status, run};
+use cat_tree::text::Text;
+use std::alloc::Global;
+use std::test::Fail;
+
+const OWNED: &[u8] =
+    b"full git {\"serial\":1,\"entities\":[{\"entity\":{\"apiVersion\":\"backstage.io/v1alpha1\",\"kind\":\"Component\",\"metadata\":{\"name\":\"Web\"},\"spec\":{\"type\":\"service\",\"lifecycle\":\"production\",\"owner\":\"Team-A\"}}}]}\r\nsettle\nstate\nget component:default/nobody\n\nquiet";
+
+const OWNED_REPLIES: &[u8] =
+    b"ok\nsettled 1 1 1\nstate records 1 orphans 0 due 0 leased 0 marked 0\nrefused not_found\nrefused word\nyes\n";
+
+fn answer(
+    alloc: Global,
+    input: &[u8],
+    piece: u64,
+    failing_read: u64,
+    failing_write: u64,
+) -> Result<(Status, Vec<u8>), Fail> {
+    let words = vec![in alloc; String::from_str(alloc, "session")?]?;
+    let mut source = MemorySource::new(
+        input.to_vec(alloc)?,
+        piece.max(1),
+        vec![in alloc; failing_read]?,
+    );
+    let mut sink = MemorySink::new(piece.max(1), vec![in alloc; failing_write]?);
+    let status = run(alloc, words.as_slice(), &mut source, &mut sink);
+    Ok((status, sink.written().to_vec(alloc)?))
+}
+
+#[test]
+fn answers_each_line_once(rt: HostRuntime) -> Result<(), Fail> {
+    let alloc = rt.alloc();
+    for piece in [1, 7, 64, 65536] {
+        let (status, replies) = answer(alloc, OWNED, piece, 0, 0)?;
+        assert_eq!(rt; status, Status(0));
+        assert_eq!(rt; replies.as_slice(), OWNED_REPLIES);
+    }
+    Ok(())
+}
+
+#[test]
+fn ends_where_an_end_fails(rt: HostRuntime) -> Result<(), Fail> {
+    let alloc = rt.alloc();
+    // The read and the write that fail, the status, and how many bytes of the replies stand.
+    let cases: [(u64, u64, u8, usize); 8] = [
+        (1, 0, 3, 0),
+        (4, 0, 3, 0),
+        (5, 0, 3, 98),
+        (0, 1, 4, 0),
+        (0, 2, 4, 3),
+        (0, 3, 4, 17),
+        (0, 4, 4, 67),
+        (0, 6, 4, 98),
+    ];
+    for (read, write, wanted, bytes) in cases.iter() {
+        let (status, replies) = answer(alloc, OWNED, 64, *read, *write)?;
+        assert_eq!(rt; status, Status(*wanted));
+        assert!(rt; OWNED_REPLIES.starts_with(replies.as_slice()));
+        assert_eq!(rt; replies.len(), *bytes);
+    }
+    Ok(())
+}
+
+fn shown(alloc: Global, state: &State) -> Result<(Vec<u8>, Vec<u8>), Fail> {
+    let mut kept = Vec::new(alloc);
+    push_documents(alloc, &mut kept, &state.documents)?;
+    let mut afresh = Vec::new(alloc);
+    push_documents(
+        alloc,
+        &mut afresh,
+        &documents_afresh(alloc, &Layered, state)?,
+    )?;
+    Ok((kept, afresh))
+}
+
+#[test]
+fn quiet_documents_are_those_computed_afresh(rt: HostRuntime) -> Result<(), Fail> {
+    let alloc = rt.alloc();
+    let settings = Settings {
+        interval: 120000,
+        lease: 60000,
+        input_limit: 67108864,
+    };
+    let mut catalogue = Catalogue::empty(alloc, Layered, settings);
+    let git = Text::of(alloc, "git")?;
+    let shelf = Text::of(alloc, "file:/r.json")?;
+    // Good, malformed, good again with another relation: no text leaves an orphan, whose document is kept beside the fresh ones.
+    let texts = [
+        "[{\"apiVersion\":\"backstage.io/v1alpha1\",\"kind\":\"Group\",\"metadata\":{\"name\":\"a\"},\"spec\":{\"type\":\"team\",\"children\":[]}}]",
+        "[",
+        "[{\"apiVersion\":\"backstage.io/v1alpha1\",\"kind\":\"Group\",\"metadata\":{\"name\":\"a\"},\"spec\":{\"type\":\"team\",\"children\":[\"b\"]}}]",
+    ];
+    let root =
+        b"{\"serial\":1,\"entities\":[{\"entity\":{\"apiVersion\":\"backstage.io/v1alpha1\",\"kind\":\"Location\",\"metadata\":{\"name\":\"root\"},\"spec\":{\"type\":\"file\",\"target\":\"/r.json\"}}},{\"entity\":{\"apiVersion\":\"backstage.io/v1alpha1\",\"kind\":\"Component\",\"metadata\":{\"name\":\"web\"},\"spec\":{\"type\":\"service\",\"lifecycle\":\"production\",\"owner\":\"a\"}}}]}";
+    let mutation = read_mutation(alloc, Form::Full, root)?;
+    assert!(rt; catalogue.mutate(alloc, &git, &mutation).is_ok());
+    for text in texts {
+        let body = Text::of(alloc, text)?;
+        assert!(rt; catalogue.shelf_put(alloc, &shelf, &body).is_ok());
+        assert!(rt; catalogue.settle(alloc, 0).is_ok());
+        let (kept, afresh) = shown(alloc, catalogue.view())?;
+        assert!(rt; catalogue.quiet(0));
+        assert_eq!(rt; kept.as_slice(), afresh.as_slice());
+    }
+    Ok(())
+}
+
+#[test]
+fn refuses_what_is_too_large(rt: HostRuntime) -> Result<(), Fail> {
+    let alloc = rt.alloc();
+    let settings = Settings {
+        interval: 120000,
+        lease: 60000,
+        input_limit: 10,
+    };
+    let mut catalogue = Catalogue::empty(alloc, Layered, settings);
+    let first = Text::of(alloc, "file:/a")?;
+    let second = Text::of(alloc, "file:/b")?;
+    let stored = catalogue.shelf_put(alloc, &first, &Text::of(alloc, "{}")?);
+    assert!(rt; stored.is_ok());
+    let refused = catalogue.shelf_put(alloc, &second, &Text::of(alloc, "")?);
+    assert!(rt; matches!(refused, Err(CoreFault::TooLarge(16))));
+    assert_eq!(rt; catalogue.view().shelf.len(), 1);
+    Ok(())
+}
