@@ -1,0 +1,6 @@
+pub mod Bodies
+pub mod Ready
+pub mod Given
+pub mod Documents
+pub mod Stored
+pub mod Sessions

@@ -1,0 +1,140 @@
+-- Every command that a line is is ready.
+use Rattle.std.proofs.Common.{◌≡◌, ℕ, ◌^◌, Bool, true, false, List, Option, None, Some, Result, Ok, Err, IfOk, if◌then◌else◌, nat_lt, length, refl, subst}
+use Rattle.std.proofs.lemmas.Bool.{ltb-true}
+use Rattle.std.specs.Option.{ok_or}
+use Rattle.cat_ref.specs.Names.{is_name, is_shelf_name}
+use Rattle.cat_types.specs.Table.{Text}
+use Rattle.cat_types.specs.declared.input.Mutation.{Mutation}
+use Rattle.cat_inputs.specs.Inputs.{mutation_of}
+use Rattle.cat_inputs.specs.declared.fault.InputFault.{InputFault}
+use Rattle.cat_inputs.specs.declared.form.Form.{Form}
+use Rattle.cat_inputs.specs.declared.form.Form.TheVariants as form
+use Rattle.cat_line.specs.Arguments.{parted, two, utf8_in, number, as_moment}
+use Rattle.cat_line.specs.Lines.{on, reference, number_in, mutated, mutate_by, put_by, drop_by, alone, with_text, with_utf8, with_rest, by_word, line_of}
+use Rattle.cat_line.specs.Ready.{IsReady}
+use Rattle.cat_line.specs.Words.{word_named}
+use Rattle.cat_line.specs.declared.fault.LineFault.{LineFault}
+use Rattle.cat_line.specs.declared.fault.LineFault.TheVariants.{BadArguments, LongLine}
+use Rattle.cat_line.specs.declared.line.Line.{Line}
+use Rattle.cat_line.specs.declared.line.Line.TheVariants as line
+use Rattle.cat_line.specs.declared.word.Word.{Word}
+use Rattle.cat_line.specs.declared.word.Word.TheVariants as word
+use Rattle.cat_forms.specs.Ready.{HasProperTrees}
+use Rattle.cat_forms.proofs.Bodies.{IsReadMutation, mutation_is_read}
+
+-- the keys of the maps in the trees of a mutation rise
+abbrev pub HasProperLine : Line → Type 0
+HasProperLine (line.Mutate p m) = HasProperTrees m
+HasProperLine _ = Unit {0}
+
+pub record IsReadLine (l : Line) : Type 0 where
+  pub ready : IsReady l
+  pub proper : HasProperLine l
+
+-- ---- the commands with an argument
+
+on_any : {A : Type 0} (command : A → Line) (r : Result A LineFault) → ((a : A) → IsReadLine (command a)) → IfOk (on command r) IsReadLine
+on_any command (Ok a) h = h a
+on_any command (Err fault) h = tt
+
+mutated_ready : (p : Text) (r : Result Mutation InputFault) → is_name p ≡ true → IfOk r IsReadMutation → IfOk (mutated p r) IsReadLine
+mutated_ready p (Ok m) e h = record { ready = (e, h.formed); proper = h.proper }
+mutated_ready p (Err fault) e h = tt
+
+mutate_ready : (f : Form) (o : Option (Text × Text)) → IfOk (mutate_by f o) IsReadLine
+mutate_ready f None = tt
+mutate_ready f (Some (p, body)) = pick (is_name p) refl
+  where
+    pick : (b : Bool) → is_name p ≡ b → IfOk (if b then mutated p (mutation_of f body) else Err BadArguments) IsReadLine
+    pick true e = mutated_ready p (mutation_of f body) e (mutation_is_read f body)
+    pick false e = tt
+
+put_ready : (o : Option (Text × Text)) → IfOk (put_by o) IsReadLine
+put_ready None = tt
+put_ready (Some (name, text)) = pick (is_shelf_name name) refl
+  where
+    pick : (b : Bool) → is_shelf_name name ≡ b → IfOk (if b then Ok (line.ShelfPut name text) else Err BadArguments) IsReadLine
+    pick true e = record { ready = e; proper = tt }
+    pick false e = tt
+
+drop_ready : (name : Text) → IfOk (drop_by name) IsReadLine
+drop_ready name = pick (is_shelf_name name) refl
+  where
+    pick : (b : Bool) → is_shelf_name name ≡ b → IfOk (if b then Ok (line.ShelfDrop name) else Err BadArguments) IsReadLine
+    pick true e = record { ready = e; proper = tt }
+    pick false e = tt
+
+as_moment_ready : (o : Option ℕ) → IfOk (on line.Clock (ok_or (as_moment o) BadArguments)) IsReadLine
+as_moment_ready None = tt
+as_moment_ready (Some n) = pick (nat_lt n (2 ^ 53)) refl
+  where
+    pick : (b : Bool) → nat_lt n (2 ^ 53) ≡ b → IfOk (on line.Clock (ok_or (if b then Some n else None) BadArguments)) IsReadLine
+    pick true e = record { ready = ltb-true n (2 ^ 53) e; proper = tt }
+    pick false e = tt
+
+-- ---- the words
+
+alone_ready : (w : Word) → IfOk (alone w) IsReadLine
+alone_ready word.Full = tt
+alone_ready word.Delta = tt
+alone_ready word.Put = tt
+alone_ready word.Drop = tt
+alone_ready word.Refresh = tt
+alone_ready word.Forget = tt
+alone_ready word.Clock = tt
+alone_ready word.Take = record { ready = tt; proper = tt }
+alone_ready word.Finish = tt
+alone_ready word.Stitch = tt
+alone_ready word.Place = tt
+alone_ready word.Settle = record { ready = tt; proper = tt }
+alone_ready word.Quiet = record { ready = tt; proper = tt }
+alone_ready word.State = record { ready = tt; proper = tt }
+alone_ready word.Get = tt
+alone_ready word.List = record { ready = tt; proper = tt }
+alone_ready word.Conflicts = record { ready = tt; proper = tt }
+alone_ready word.Failed = record { ready = tt; proper = tt }
+alone_ready word.Orphans = record { ready = tt; proper = tt }
+
+text_ready : (w : Word) (text : Text) → IfOk (with_text w text) IsReadLine
+text_ready word.Full text = mutate_ready form.Full (two text)
+text_ready word.Delta text = mutate_ready form.Delta (two text)
+text_ready word.Put text = put_ready (two text)
+text_ready word.Drop text = drop_ready text
+text_ready word.Refresh text = on_any line.Refresh (reference text) (λ r. record { ready = tt; proper = tt })
+text_ready word.Forget text = on_any line.Forget (reference text) (λ r. record { ready = tt; proper = tt })
+text_ready word.Clock text = as_moment_ready (number text)
+text_ready word.Take text = tt
+text_ready word.Finish text = on_any line.Finish (number_in text) (λ n. record { ready = tt; proper = tt })
+text_ready word.Stitch text = on_any line.Stitch (number_in text) (λ n. record { ready = tt; proper = tt })
+text_ready word.Place text = on_any line.Place (number_in text) (λ n. record { ready = tt; proper = tt })
+text_ready word.Settle text = tt
+text_ready word.Quiet text = tt
+text_ready word.State text = tt
+text_ready word.Get text = on_any line.Get (reference text) (λ r. record { ready = tt; proper = tt })
+text_ready word.List text = tt
+text_ready word.Conflicts text = tt
+text_ready word.Failed text = tt
+text_ready word.Orphans text = tt
+
+utf8_ready : (w : Word) (o : Option Text) → IfOk (with_utf8 w o) IsReadLine
+utf8_ready w None = tt
+utf8_ready w (Some text) = text_ready w text
+
+rest_ready : (w : Word) (rest : Option (List ℕ)) → IfOk (with_rest w rest) IsReadLine
+rest_ready w None = alone_ready w
+rest_ready w (Some rest) = utf8_ready w (utf8_in rest)
+
+word_ready : (w : Option Word) (rest : Option (List ℕ)) → IfOk (by_word w rest) IsReadLine
+word_ready None rest = tt
+word_ready (Some w) rest = rest_ready w rest
+
+either_ready : (b : Bool) (r : Result Line LineFault) → IfOk r IsReadLine → IfOk (if b then Err LongLine else r) IsReadLine
+either_ready true r h = tt
+either_ready false r h = h
+
+line_is_read : (bytes : List ℕ) → IfOk (line_of bytes) IsReadLine
+unfolding line_of
+line_is_read bytes = either_ready (nat_lt 8388608 (length bytes)) (by_word (word_named (parted bytes).0) (parted bytes).1) (word_ready (word_named (parted bytes).0) (parted bytes).1)
+
+pub line_ready : (bytes : List ℕ) (l : Line) → line_of bytes ≡ Ok l → IsReadLine l
+line_ready bytes l e = subst (λ r. IfOk r IsReadLine) e (line_is_read bytes)

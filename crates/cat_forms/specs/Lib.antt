@@ -1,0 +1,3 @@
+pub mod Real
+pub mod Ready
+pub mod Documents

@@ -1,0 +1,5 @@
+pub mod Places
+pub mod Kept
+pub mod First
+pub mod Named
+pub mod Least
