@@ -10,8 +10,9 @@ use Rattle.cat_model.specs.declared.types.Fault.TheVariants.{OldSerial, NotFound
 use Rattle.cat_model.specs.declared.types.Settings.{Settings}
 use Rattle.cat_model.specs.declared.types.State.{State}
 use Rattle.cat_model.specs.Catalogue.{Rules}
-use Rattle.cat_model.specs.Sound.{AreSmall, Sound}
+use Rattle.cat_model.specs.Sound.{AreBegun, AreSmall, Sound}
 use Rattle.cat_model.specs.Step.{Event, change, refusal, step}
+use Rattle.cat_laws.proofs.Counters.{step_begun}
 use Rattle.cat_laws.proofs.Steps.{run_kept, step_small}
 use Rattle.cat_events.specs.Stepped.{come_to, stepped}
 use Rattle.cat_events.specs.declared.stepped.Stepped.{Stepped}
@@ -52,6 +53,7 @@ pub record IsCall {E : Type 0} (rules : Rules) (s : Settings) (e : Event) (m : S
   pub state : state_of came m ≡ after (answer_of came) m (step rules s e m)
   pub reply : IsReply (answer_of came) (refusal rules s e m) tt
   pub small : AreSmall m → AreSmall (state_of came m)
+  pub begun : AreBegun m → AreBegun (state_of came m)
   pub sound : Sound rules m → Sound rules (state_of came m)
 
 module _ (rules : Rules) (s : Settings) (e : Event) (m : State) where
@@ -60,14 +62,15 @@ module _ (rules : Rules) (s : Settings) (e : Event) (m : State) where
     state = h.1;
     reply = (h.0, refl);
     small = λ k. subst AreSmall (sym h.1) (step_small rules s e m k);
+    begun = λ k. subst AreBegun (sym h.1) (step_begun rules s e m k);
     sound = λ k. subst (Sound rules) (sym h.1) (run_kept rules s (e ∷ []) m k);
   }
 
   pub called : {E : Type 0} (came : Result Stepped E) → IfOk came (λ o. o ≡ come_to rules s e m) → IsCall rules s e m came
   unfolding step
   called (Ok (Acts n)) h = acts n (acted m n (refusal rules s e m) (change rules s e m) h)
-  called (Ok (Refused fault)) h = record { state = refl; reply = is_fault fault (refusal rules s e m) (refused fault (refusal rules s e m) (change rules s e m) h); small = λ k. k; sound = λ k. k }
-  called (Err x) h = record { state = refl; reply = tt; small = λ k. k; sound = λ k. k }
+  called (Ok (Refused fault)) h = record { state = refl; reply = is_fault fault (refusal rules s e m) (refused fault (refusal rules s e m) (change rules s e m) h); small = λ k. k; begun = λ k. k; sound = λ k. k }
+  called (Err x) h = record { state = refl; reply = tt; small = λ k. k; begun = λ k. k; sound = λ k. k }
 
 -- what a catalogue keeps is kept by a call; x is the ledger that was opened
 module _ {E : Type 0} (rules : Rules) (e : Event) (x m : Ledger) (same : x ≡ m) (came : Result Stepped E) (is : IfOk came (λ o. o ≡ come_to rules x.settings e x.state)) where
@@ -77,7 +80,7 @@ module _ {E : Type 0} (rules : Rules) (e : Event) (x m : Ledger) (same : x ≡ m
   pub ledger_kept : (n : State) → n ≡ state_of came x.state → IsKept rules x → IsKept rules (record x { state = n })
   ledger_kept n en h =
       let c = called rules x.settings e x.state came is in
-      record { settings = h.settings; sound = subst (Sound rules) (sym en) (c.sound h.sound); small = subst AreSmall (sym en) (c.small h.small) }
+      record { settings = h.settings; sound = subst (Sound rules) (sym en) (c.sound h.sound); small = subst AreSmall (sym en) (c.small h.small); begun = subst AreBegun (sym en) (c.begun h.begun) }
 
   pub state_is : (n : State) → n ≡ state_of came x.state → (r : Result (Unit {0}) CoreFault) → r ≡ answer_of came → n ≡ after r m.state (step rules m.settings e m.state)
   state_is n en r er = en ∙ ap (λ (l : Ledger). state_of came l.state) same ∙ call.state ∙ ap (λ a. after a m.state (step rules m.settings e m.state)) (sym er)

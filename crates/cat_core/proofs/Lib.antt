@@ -1,4 +1,6 @@
 pub mod Calls
+pub mod Firsts
 pub mod Mutated
 pub mod Settles
 pub mod Takes
+pub mod Walks

@@ -16,7 +16,8 @@ use Rattle.cat_model.specs.declared.types.Stop.TheVariants.{Refused as StopRefus
 use Rattle.cat_model.specs.Catalogue.{Rules}
 use Rattle.cat_model.specs.Reply.{counts}
 use Rattle.cat_model.specs.Settle.{not_begun, try_settle}
-use Rattle.cat_model.specs.Sound.{AreSmall, Quiet, Sound}
+use Rattle.cat_model.specs.Sound.{AreBegun, AreSmall, Quiet, Sound}
+use Rattle.cat_laws.proofs.Stands.{settle_keeps}
 use Rattle.cat_laws.proofs.Tried.{unstopped_quiet}
 use Rattle.cat_settle.specs.Part.{Came, IsCut, IsDone}
 use Rattle.cat_core.specs.declared.fault.Cut.{Cut}
@@ -35,6 +36,11 @@ whole_is (TooLarge k) q n e a b = (a, b)
 whole_is (Spent c) q n e a b = (a, b)
 
 module _ (rules : Rules) (s : Settings) (now : ℕ) (m : State) where
+  -- the counters stay at least 1
+  pub settled_begun : {A E : Type 0} (came : Result A E) (p : Progress) → p.events < 2 ^ 64 - 1 → Came came (λ limit. try_settle rules s now limit m) p → AreBegun m → AreBegun p.state
+  settled_begun (Ok x) p few h begun = subst AreBegun (ap (λ (q : Progress). q.state) h.whole) ((settle_keeps rules s now None m).begun begun)
+  settled_begun (Err e) p few h begun = subst AreBegun (h.state few) ((settle_keeps rules s now (Some p.events) m).begun begun)
+
   module _ (later : 1 ≤ s.interval) (sound : Sound rules m) where
     stopped : (p : Progress) → p.events < 2 ^ 64 - 1 → (done : IsDone (λ limit. try_settle rules s now limit m) p) (v : Option Stop) → p.stop ≡ v → IsSettled rules s now m (stop_answer p v) p.state
     stopped p few done None h =

@@ -2,7 +2,7 @@
 use Rattle.std.specs.Prelude.{ℕ, ◌<◌, ◌≤◌, ◌^◌}
 use Rattle.cat_model.specs.declared.types.Settings.{Settings}
 use Rattle.cat_model.specs.Catalogue.{Rules}
-use Rattle.cat_model.specs.Sound.{AreSmall, Sound}
+use Rattle.cat_model.specs.Sound.{AreBegun, AreSmall, Sound}
 use Rattle.cat_core.specs.declared.ledger.Ledger.{Ledger}
 
 -- the interval and the lease are 1 to 2^40, and the limit on the stored input bytes is below 2^62
@@ -18,3 +18,4 @@ pub record IsKept (rules : Rules) (ledger : Ledger) : Type 0 where
   pub settings : AreSettings ledger.settings
   pub sound : Sound rules ledger.state
   pub small : AreSmall ledger.state
+  pub begun : AreBegun ledger.state

@@ -1,2 +1,4 @@
 pub mod Answer
 pub mod Kept
+pub mod Least
+pub mod Waits

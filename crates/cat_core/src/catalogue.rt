@@ -1,26 +1,28 @@
 //! The catalogue.
-ghost use Rattle.std.specs.Prelude.{◌≡◌, ℕ, ◌<◌, ◌≤◌, ◌^◌, IfOk, IfErr, Option, IsTrue, ◌↔◌, is_ok, option_map};
+ghost use Rattle.std.specs.Prelude.{◌≡◌, ℕ, ◌<◌, ◌≤◌, ◌^◌, IfOk, IfErr, Option, IsTrue, ◌↔◌, is_ok, option_map, slice_get};
 ghost use Rattle.std.specs.declared.option.Option.TheVariants.{None};
 ghost use Rattle.cat_types.specs.Table.{get};
 ghost use Rattle.cat_model.specs.Catalogue.{holding};
 ghost use Rattle.cat_model.specs.Fresh.{IsFresh};
 ghost use Rattle.cat_model.specs.Given.{given};
-ghost use Rattle.cat_model.specs.Reply.{acted, counts, finished, issues_at, next_known, next_stitch, placed, resting, state_counts, taken};
+ghost use Rattle.cat_model.specs.Reply.{acted, counts, finished, issues_at, next_known, next_stitch, placed, resting, state_counts, taken, waiting};
 ghost use Rattle.cat_model.specs.Settle.{not_begun, try_settle};
-ghost use Rattle.cat_model.specs.Sound.{AreSmall, Quiet, Sound, its_number};
+ghost use Rattle.cat_model.specs.Sound.{AreBegun, AreSmall, Quiet, Sound, its_number};
 ghost use Rattle.cat_events.specs.Stepped.{come_to, AreMoments};
 ghost use Rattle.cat_core.specs.Answer.{IsSettled, settle_answer};
 ghost use Rattle.cat_model.specs.Step.{ref_at, refusal, source_at, start, step};
 ghost use Rattle.cat_model.specs.Step.Event.{Finish, Forget, ForgetNumber, Mutate, PutStitch, Refresh, ShelfDrop, ShelfPut, Take};
 
 use crate::called::{core_fault, taken_in, with_reply};
-use crate::extra::{forget_number_step, next_ref, ref_with, refresh_step};
+use crate::extra::{forget_number_step, refresh_step};
 use crate::fault::{CoreFault, Cut};
+use crate::known::{next_of, with_number};
 use crate::ledger::Ledger;
 use crate::orders::{finish_reply, take_came};
 use crate::questions::{
     counts_of, is_quiet, issues_of, number_of, rests, stitch_after, stitch_reply,
 };
+use crate::waiting::waiting_at;
 use cat_events::change::{forget_step, shelf_drop_step, shelf_put_step};
 use cat_events::given::{given_by, serial_of};
 use cat_events::lease::finish_step;
@@ -152,11 +154,13 @@ fn settle_state<L: Layers>(
     state: &mut State,
 ) -> Result<Counts, Cut>
     requires small { AreSmall state.old }
+    requires begun { AreBegun state.old }
     requires sound { Sound L.rules state.old }
     requires moments { AreMoments settings.now now }
     requires interval { 1 ≤ settings.now.interval }
     ensures settled { IsSettled L.rules settings.now now state.old result state.new }
     ensures small { AreSmall state.new }
+    ensures begun { AreBegun state.new }
     ensures sound { Sound L.rules state.new }
 {
     let taken = mem::replace(state, empty_state(alloc));
@@ -346,18 +350,18 @@ impl<L: Layers> Catalogue<L> {
         taken_in(came, &mut self.ledger.state)
     }
 
-    /// The reference of a record or an orphan with this number.
-    pub fn ref_at(&self, alloc: Global, number: u64) -> Result<Option<Ref>, AllocError>
-        ensures { IfOk result (λ r. r ≡ ref_at self.now.state number) }
+    /// The reference of a record or an orphan with this number. No memory is taken.
+    pub fn ref_at(&self, number: u64) -> Option<&Ref>
+        ensures { option_map (λ r. r.now) result ≡ ref_at self.now.state number }
     {
-        ref_with(alloc, &self.ledger.state, number)
+        with_number(&self.ledger.state, number)
     }
 
-    /// The next reference that is a record or an orphan, or the first.
-    pub fn after(&self, alloc: Global, reference: Option<&Ref>) -> Result<Option<Ref>, AllocError>
-        ensures { IfOk result (λ r. r ≡ next_known self.now.state (option_map (λ x. x.now) reference.entry)) }
+    /// The next reference that is a record or an orphan, or the first. No memory is taken.
+    pub fn after(&self, reference: Option<&Ref>) -> Option<&Ref>
+        ensures { option_map (λ r. r.now) result ≡ next_known self.now.state (option_map (λ r. r.now) reference.entry) }
     {
-        next_ref(alloc, &self.ledger.state, reference)
+        next_of(&self.ledger.state, reference)
     }
 
     /// Leases the record that is due first and free, and gives its order; none where nothing is due and free.
@@ -478,6 +482,14 @@ impl<L: Layers> Catalogue<L> {
         ensures { result ≡ resting self.now.state reference.now }
     {
         rests(&self.ledger.state, reference)
+    }
+
+    /// The row at this place, from 0, among those that don't hold their reference, by reference and then by arrival; none where
+    /// there are no more. No memory is taken, but each row is asked once for each place up to this one.
+    pub fn waiting(&self, place: u64) -> Option<&Row>
+        ensures { option_map (λ x. x.now) result ≡ option_map (λ e. e.1) (slice_get (waiting self.now.state) place) }
+    {
+        waiting_at(&self.ledger.state, place)
     }
 
     /// The row that holds a reference.

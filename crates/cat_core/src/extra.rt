@@ -4,7 +4,7 @@ ghost use Rattle.std.specs.declared.option.Option.TheVariants.{None, Some};
 ghost use Rattle.std.specs.List.{filter};
 ghost use Rattle.cat_types.specs.Table.{first, get, keys};
 ghost use Rattle.cat_model.specs.Catalogue.{known_refs};
-ghost use Rattle.cat_model.specs.Reply.{comes_after, finished, next_known, taken};
+ghost use Rattle.cat_model.specs.Reply.{finished, taken};
 ghost use Rattle.cat_model.specs.Settle.{order};
 ghost use Rattle.cat_model.specs.Sound.{AreSmall};
 ghost use Rattle.cat_model.specs.Step.{due_at, earlier, earliest, has_number, is_free, may_take, next_taken, ref_at, refresh};
@@ -19,9 +19,8 @@ use cat_hold::build::{Passes, filtered, first_of};
 use cat_hold::layers::Layers;
 use cat_model::types::{Fault, Lease, Orphan, Record, Settings, State};
 use cat_ref::reference::Ref;
-use cat_types::table::{Copied, Key};
+use cat_types::table::Copied;
 use std::alloc::{AllocError, Global};
-use std::cmp::Ordering;
 
 fn has_record(m: &State, reference: &Ref) -> bool
     ensures { result ≡ is_some (get m.now.records reference.now) }
@@ -70,7 +69,8 @@ pub fn refresh_step<L: Layers>(
     }
 }
 
-fn numbered(number: u64, kept: Option<&Record>, orphan: Option<&Orphan>) -> bool
+/// Whether a record, or else an orphan, has this number.
+pub fn numbered(number: u64, kept: Option<&Record>, orphan: Option<&Orphan>) -> bool
     ensures { result ≡ has_number number (option_map (λ x. x.now) kept.entry) (option_map (λ x. x.now) orphan.entry) }
 {
     match kept {
@@ -127,37 +127,6 @@ pub fn forget_number_step<L: Layers>(
             Ok(o)
         }
     }
-}
-
-fn is_later(after: Option<&Ref>, reference: &Ref) -> bool
-    ensures { result ≡ comes_after (option_map (λ r. r.now) after.entry) reference.now }
-{
-    match after {
-        None => true,
-        Some(after) => reference.compare(after) == Ordering::Greater,
-    }
-}
-
-#[derive(Drop)]
-struct ComesAfter<'a> {
-    after: Option<&'a Ref>,
-}
-
-impl Passes<Ref> for ComesAfter<'_> {
-    ghost passes = { λ s r. comes_after (option_map (λ x. x.now) s.after) r };
-
-    fn test(&self, _alloc: Global, key: &Ref) -> Result<bool, AllocError> {
-        Ok(is_later(self.after, key))
-    }
-}
-
-/// The next reference that is a record or an orphan, or the first.
-pub fn next_ref(alloc: Global, m: &State, after: Option<&Ref>) -> Result<Option<Ref>, AllocError>
-    ensures { IfOk result (λ r. r ≡ next_known m.now (option_map (λ x. x.now) after.entry)) }
-{
-    let all = all_refs(alloc, m)?;
-    let test = ComesAfter { after };
-    first_of(alloc, all.as_slice(), &test)
 }
 
 fn free(now: u64, lease: &Option<Lease>) -> bool

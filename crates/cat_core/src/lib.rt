@@ -9,6 +9,8 @@ pub mod called;
 pub mod catalogue;
 pub mod extra;
 pub mod fault;
+pub mod known;
 pub mod ledger;
 pub mod orders;
 pub mod questions;
+pub mod waiting;

@@ -1,0 +1,12 @@
+use Rattle.std.proofs.Common.{◌≡◌, ◌≤◌, length, drop}
+use Rattle.std.specs.Option.{option_map}
+use Rattle.cat_types.specs.Table.{keys, text_cmp}
+use Rattle.cat_core.specs.Least.{least}
+use Rattle.cat_core.proofs.known.least_in.Given as goal
+
+abbrev pub invariant-loop-left : goal.invariant-loop-left
+invariant-loop-left g l =
+    (l.left ≤ length l.entries) × (option_map (λ r. r.now) l.best ≡ least text_cmp (g.F.Tells.tells l.test) (keys (drop l.left l.entries)) (option_map (λ r. r.now) l.found))
+
+abbrev pub decreases-loop-left : goal.decreases-loop-left
+decreases-loop-left g l = l.left
