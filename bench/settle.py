@@ -49,7 +49,7 @@ def location(k, last):
     return entity('Location', f'l{k}', {'type': 'file', 'target': f'/{k}.json'}) if k < last else sample(1)[10]
 
 def main():
-    counts = [int(x) for x in sys.argv[1:]] or [100, 300, 1000]
+    counts = [int(x) for x in sys.argv[1:]] or [100, 300, 1000, 3000]
     subprocess.run([PROGRAM, 'session'], stdin=subprocess.DEVNULL, check=True)
     print(f'{"input":26} {"full, s":>8} {"settle, s":>10} {"one owner changed, s":>21} {"settle, s":>10}   replies')
     for count in counts:

@@ -2,3 +2,4 @@ pub mod Claims
 pub mod Waiting
 pub mod Change
 pub mod Kept
+pub mod Turns

@@ -2,5 +2,6 @@ pub mod Calls
 pub mod Firsts
 pub mod Mutated
 pub mod Settles
+pub mod Steadies
 pub mod Takes
 pub mod Walks

@@ -1,13 +1,10 @@
 -- Mutations with the last serial again, or a lower one.
-use Rattle.std.proofs.Common.{◌≡◌, ℕ, ◌<◌, ◌≤◌, ◌^◌, Bool, true, false, cond, ◌&&◌, is_some, nat_lt, refl, sym, ap, ◌∙◌, arith}
+use Rattle.std.proofs.Common.{◌≡◌, ℕ, ◌<◌, ◌≤◌, ◌^◌, true, false, cond, ◌&&◌, is_some, nat_lt, ap, ◌∙◌, arith}
 use Rattle.std.proofs.lemmas.Bool.Decides.{nat_tests}
-use Rattle.std.specs.declared.option.Option.{Option}
 use Rattle.std.specs.declared.option.Option.TheVariants.{None, Some}
 use Rattle.cat_types.specs.Table.{Text, get}
 use Rattle.cat_model.specs.declared.types.Counter.TheVariants.{Arrival, Number, Token, Ticket}
-use Rattle.cat_model.specs.declared.types.Acted.{Acted}
 use Rattle.cat_model.specs.declared.types.Acted.TheVariants.{Now, Again}
-use Rattle.cat_model.specs.declared.types.Fault.{Fault}
 use Rattle.cat_model.specs.declared.types.Fault.TheVariants.{OldSerial, TooLarge, Spent}
 use Rattle.cat_model.specs.declared.types.Given.{Given}
 use Rattle.cat_model.specs.declared.types.Leaving.TheVariants.{Deleted}

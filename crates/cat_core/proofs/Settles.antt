@@ -1,11 +1,9 @@
 -- What a settle answers.
-use Rattle.std.proofs.Common.{arith, ◌≡◌, ℕ, ◌-◌, ◌^◌, ◌<◌, ◌≤◌, refl, sym, ap, ◌∙◌, subst, true≢false, IfOk, IfErr, is_some}
-use Rattle.std.specs.Prelude.{⊤}
+use Rattle.std.proofs.Common.{arith, ◌≡◌, ℕ, ◌-◌, ◌^◌, ◌<◌, ◌≤◌, refl, sym, ap, ◌∙◌, subst}
 use Rattle.std.specs.declared.option.Option.{Option}
 use Rattle.std.specs.declared.option.Option.TheVariants.{None, Some}
 use Rattle.std.specs.declared.result.Result.{Result}
 use Rattle.std.specs.declared.result.Result.TheVariants.{Ok, Err}
-use Rattle.cat_model.specs.declared.types.Counts.{Counts}
 use Rattle.cat_model.specs.declared.types.Fault.{Fault}
 use Rattle.cat_model.specs.declared.types.Fault.TheVariants.{OldSerial, NotFound, TooLarge, Spent}
 use Rattle.cat_model.specs.declared.types.Progress.{Progress}
@@ -19,9 +17,8 @@ use Rattle.cat_model.specs.Settle.{not_begun, try_settle}
 use Rattle.cat_model.specs.Sound.{AreBegun, AreSmall, Quiet, Sound}
 use Rattle.cat_laws.proofs.Stands.{settle_keeps}
 use Rattle.cat_laws.proofs.Tried.{unstopped_quiet}
-use Rattle.cat_settle.specs.Part.{Came, IsCut, IsDone}
-use Rattle.cat_core.specs.declared.fault.Cut.{Cut}
-use Rattle.cat_core.specs.Answer.{IsCause, IsCutSettle, IsSettled, IsWhole, core_fault, settle_answer, stop_answer}
+use Rattle.cat_settle.specs.Part.{Came, IsDone}
+use Rattle.cat_core.specs.Answer.{IsCause, IsSettled, IsWhole, core_fault, settle_answer, stop_answer}
 
 cause_is : (fault : Fault) (stop : Option Stop) → stop ≡ Some (StopRefused fault) → IsCause (core_fault fault) stop
 cause_is (OldSerial n) stop h = h

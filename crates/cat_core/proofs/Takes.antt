@@ -1,45 +1,48 @@
--- A take is that of the record that is due first and free, and a forget by number that of its reference.
-use Rattle.std.proofs.Common.{◌≡◌, ℕ, Bool, true, false, ◌&&◌, is_none, refl, sym, ap, ◌∙◌, true≢false}
+-- The order that a take gives is known before it, and a forget by number is that of its reference.
+use Rattle.std.proofs.Common.{◌≡◌, ℕ, ◌+◌, true, false, ◌&&◌, is_none, refl, sym, ap, ◌∙◌, true≢false}
 use Rattle.std.specs.declared.option.Option.{Option}
 use Rattle.std.specs.declared.option.Option.TheVariants.{None, Some}
 use Rattle.std.specs.Option.{option_and_then}
 use Rattle.cat_types.specs.Table.{Text, get}
-use Rattle.cat_types.proofs.Tables.{first_some, text_antisymmetric, text_total}
-use Rattle.cat_model.specs.declared.types.Fault.{Fault}
+use Rattle.cat_types.proofs.Tables.{find-put_same, first_some, text_antisymmetric, text_total}
 use Rattle.cat_model.specs.declared.types.Fault.TheVariants.{NotFound}
+use Rattle.cat_model.specs.declared.types.Lease.{Lease}
 use Rattle.cat_model.specs.declared.types.Orphan.{Orphan}
 use Rattle.cat_model.specs.declared.types.Record.{Record}
-use Rattle.cat_model.specs.declared.types.Order.{Order}
 use Rattle.cat_model.specs.declared.types.Settings.{Settings}
 use Rattle.cat_model.specs.declared.types.State.{State}
-use Rattle.cat_model.specs.Catalogue.{Rules, known_refs}
-use Rattle.cat_model.specs.Settle.{order}
-use Rattle.cat_model.specs.Step.{change, fault_where, forget, forget_at, has_number, next_taken, or_else, ref_at, spent, take_next}
-use Rattle.cat_model.specs.Step.Event.{Forget, ForgetNumber, Take, TakeAt}
+use Rattle.cat_model.specs.Catalogue.{Rules, Work, known_refs, work}
+use Rattle.cat_model.specs.Reply.{taken}
+use Rattle.cat_model.specs.Settle.{order, order_with}
+use Rattle.cat_model.specs.Step.{change, fault_where, forget, forget_at, has_number, leased, next_taken, or_else, ref_at, spent, take, take_next}
+use Rattle.cat_model.specs.Step.Event.{Forget, ForgetNumber, Take}
 use Rattle.cat_events.specs.Stepped.{come_to, stepped}
-use Rattle.cat_events.specs.declared.stepped.Stepped.{Stepped}
-use Rattle.cat_core.specs.Answer.{IsTakeOf, is_acts, order_in}
+use Rattle.cat_core.specs.Answer.{order_ahead, order_for}
 
 module _ (rules : Rules) (s : Settings) (now : ℕ) (m : State) where
-  abbrev taking : Option Text → Stepped
-  taking v = stepped (spent (take_next s now m v)) (take_next s now m v)
+  -- the order of a lease that a take gives is the one ahead
+  ahead : (r : Text) (w : Option Work) (v : Option Record) → get m.records r ≡ v → order_for r m.token v w ≡ order_with r (option_and_then (λ (x : Record). x.lease) (get (take s r now m v).records r)) w
+  ahead r w None at = ap (λ v. order_with r (option_and_then (λ (x : Record). x.lease) v) w) (sym at)
+  ahead r w (Some x) at =
+      let lease : Lease = record { token = m.token; expires = now + s.lease } in
+      ofthe w ∙ ap (λ v. order_with r (option_and_then (λ (x : Record). x.lease) v) w) (sym (find-put_same text_total text_antisymmetric r (leased x.due x (Some lease)) m.records))
+    where
+      ofthe : (w : Option Work) → order_for r m.token (Some x) w ≡ order_with r (Some (record { token = m.token; expires = now + s.lease })) w
+      ofthe None = refl
+      ofthe (Some w) = refl
 
-  pub take_none : (n : State) (o : Stepped) → None ≡ next_taken now m → n ≡ m → o ≡ stepped (spent n) n → IsTakeOf rules s now m o None
-  take_none n o e en eo = record {
-    step = eo ∙ (ap (λ x. stepped (spent x) x) en ∙ ap taking e);
-    order = λ h. ap (option_and_then (order rules (change rules s (Take now) m))) e;
-  }
+  same_work : (r : Text) (v : Option Record) → work rules m r ≡ work rules (take s r now m v) r
+  same_work r None = refl
+  same_work r (Some x) = refl
 
-  given_in : (r : Text) (v : Option Fault) (n : State) (o : Stepped) → o ≡ stepped v n → is_acts o ≡ true → order_in rules o r ≡ order rules n r
-  given_in r None n o eo h = ap (λ x. order_in rules x r) eo
-  given_in r (Some f) n o eo h = absurd (true≢false (sym h ∙ ap is_acts eo))
+  pub order_given : (r : Text) → Some r ≡ next_taken now m → order_ahead rules m r ≡ taken rules s now m
+  order_given r e =
+      let v = get m.records r in
+      ahead r (work rules m r) v refl
+      ∙ (ap (order_with r (option_and_then (λ (x : Record). x.lease) (get (take s r now m v).records r))) (same_work r v)
+      ∙ (ap (λ v. order rules (take_next s now m v) r) e ∙ ap (option_and_then (order rules (change rules s (Take now) m))) e))
 
-  pub take_some : (r : Text) (o : Stepped) (given : Option Order) → Some r ≡ next_taken now m → o ≡ come_to rules s (TakeAt r now) m → given ≡ order_in rules o r → IsTakeOf rules s now m o given
-  take_some r o given e eo eg = record {
-    step = eo ∙ ap taking e;
-    order = λ h. eg ∙ (given_in r (spent (take_next s now m (Some r))) (take_next s now m (Some r)) o eo h
-        ∙ (ap (λ v. order rules (take_next s now m v) r) e ∙ ap (option_and_then (order rules (change rules s (Take now) m))) e));
-  }
+-- ---- forgets by number
 
 has_known : (number : ℕ) (u : Option Record) (w : Option Orphan) → has_number number u w ≡ true → (is_none u && is_none w) ≡ false
 has_known number None None h = absurd (true≢false (sym h))

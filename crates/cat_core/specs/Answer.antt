@@ -1,5 +1,5 @@
 -- What a call of the catalogue answers.
-use Rattle.std.specs.Prelude.{◌≡◌, ⊤, Bool, true, false, ℕ, ◌-◌, ◌<◌, ◌^◌, IfOk, IfErr}
+use Rattle.std.specs.Prelude.{◌≡◌, ⊤, ℕ, IfOk, IfErr}
 use Rattle.std.specs.declared.option.Option.{Option}
 use Rattle.std.specs.declared.option.Option.TheVariants.{None, Some}
 use Rattle.std.specs.declared.result.Result.{Result}
@@ -12,16 +12,13 @@ use Rattle.cat_model.specs.declared.types.Stop.{Stop}
 use Rattle.cat_model.specs.declared.types.Stop.TheVariants.{Refused as StopRefused, Limit}
 use Rattle.cat_model.specs.declared.types.Progress.{Progress}
 use Rattle.cat_model.specs.declared.types.Counts.{Counts}
-use Rattle.cat_model.specs.Catalogue.{Rules}
-use Rattle.cat_model.specs.Reply.{counts, taken}
-use Rattle.cat_types.specs.Table.{Text}
+use Rattle.cat_model.specs.Catalogue.{Ref, Rules, Work, work}
+use Rattle.cat_model.specs.Reply.{counts}
+use Rattle.cat_types.specs.Table.{get}
 use Rattle.cat_model.specs.declared.types.Order.{Order}
-use Rattle.cat_model.specs.Settle.{order, try_settle}
-use Rattle.cat_model.specs.Step.Event.{Take}
-use Rattle.cat_events.specs.Stepped.{come_to}
+use Rattle.cat_model.specs.declared.types.Record.{Record}
+use Rattle.cat_model.specs.Settle.{try_settle}
 use Rattle.cat_model.specs.Sound.{Quiet}
-use Rattle.cat_events.specs.declared.stepped.Stepped.{Stepped}
-use Rattle.cat_events.specs.declared.stepped.Stepped.TheVariants.{Refused, Acts}
 use Rattle.cat_core.specs.declared.fault.CoreFault.{CoreFault}
 use Rattle.cat_core.specs.declared.fault.CoreFault.TheVariants.{OldSerial, NotFound, TooLarge, Spent, NoMemory}
 use Rattle.cat_core.specs.declared.fault.Cut.{Cut}
@@ -33,22 +30,22 @@ core_fault ModelNotFound = NotFound
 core_fault (ModelTooLarge n) = TooLarge n
 core_fault (ModelSpent c) = Spent c
 
--- the state that an event gives; a refusal and want of memory change nothing
-abbrev pub state_of : {E : Type 0} → Result Stepped E → State → State
-state_of (Ok (Acts n)) m = n
-state_of (Ok (Refused fault)) m = m
-state_of (Err e) m = m
-
 -- what is answered to an event whose reply says nothing more
-abbrev pub answer_of : {E : Type 0} → Result Stepped E → Result (Unit {0}) CoreFault
-answer_of (Ok (Acts n)) = Ok tt
-answer_of (Ok (Refused fault)) = Err (core_fault fault)
-answer_of (Err e) = Err NoMemory
+abbrev pub event_answer : {E : Type 0} → Result (Option Fault) E → Result (Unit {0}) CoreFault
+event_answer (Ok None) = Ok tt
+event_answer (Ok (Some fault)) = Err (core_fault fault)
+event_answer (Err e) = Err NoMemory
 
 -- the answer with the reply of a call that isn't refused
 abbrev pub replied : {T : Type 0} → Result (Unit {0}) CoreFault → T → Result T CoreFault
 replied (Ok x) reply = Ok reply
 replied (Err fault) reply = Err fault
+
+-- what is answered to an event that gives its reply with its refusal
+abbrev pub answer_with : {T E : Type 0} → Result (Option Fault × T) E → Result T CoreFault
+answer_with (Ok (None, reply)) = Ok reply
+answer_with (Ok (Some fault, reply)) = Err (core_fault fault)
+answer_with (Err e) = Err NoMemory
 
 -- a refused call changes nothing
 abbrev pub after : {T : Type 0} → Result T CoreFault → State → State → State
@@ -109,16 +106,12 @@ pub record IsSettled (rules : Rules) (s : Settings) (now : ℕ) (m : State) (rep
   pub ended : IfOk reply (λ x. (try_settle rules s now None m).stop ≡ None)
   pub cut : IfErr reply (λ x. IsCutSettle rules s now m n x)
 
--- the order of the present lease in the state that an event gives
-abbrev pub order_in : Rules → Stepped → Text → Option Order
-order_in rules (Acts n) r = order rules n r
-order_in rules (Refused fault) r = None
+-- the order of a lease with this token, where there are a record and its work
+abbrev pub order_for : Ref → ℕ → Option Record → Option Work → Option Order
+order_for r token None w = None
+order_for r token (Some x) None = None
+order_for r token (Some x) (Some w) = Some (record { reference = r; token = token; work = w })
 
-abbrev pub is_acts : Stepped → Bool
-is_acts (Acts n) = true
-is_acts (Refused fault) = false
-
--- what a take comes to, with the order that it gives where it isn't refused
-pub record IsTakeOf (rules : Rules) (s : Settings) (now : ℕ) (m : State) (came : Stepped) (given : Option Order) : Type 0 where
-  pub step : came ≡ come_to rules s (Take now) m
-  pub order : is_acts came ≡ true → given ≡ taken rules s now m
+-- the order that the next lease of a reference gives
+abbrev pub order_ahead : Rules → State → Ref → Option Order
+order_ahead rules m r = order_for r m.token (get m.records r) (work rules m r)

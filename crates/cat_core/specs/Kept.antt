@@ -1,8 +1,10 @@
 -- What holds of a catalogue between two calls.
-use Rattle.std.specs.Prelude.{ℕ, ◌<◌, ◌≤◌, ◌^◌}
+use Rattle.std.specs.Prelude.{◌<◌, ◌≤◌, ◌^◌}
 use Rattle.cat_model.specs.declared.types.Settings.{Settings}
 use Rattle.cat_model.specs.Catalogue.{Rules}
-use Rattle.cat_model.specs.Sound.{AreBegun, AreSmall, Sound}
+use Rattle.cat_model.specs.Sound.{AreBegun}
+use Rattle.cat_links.specs.Links.{Emitted}
+use Rattle.cat_events.specs.Coming.{IsSteady}
 use Rattle.cat_core.specs.declared.ledger.Ledger.{Ledger}
 
 -- the interval and the lease are 1 to 2^40, and the limit on the stored input bytes is below 2^62
@@ -13,9 +15,8 @@ pub record AreSettings (s : Settings) : Type 0 where
   pub lease_to : s.lease ≤ 2 ^ 40
   pub input_limit : s.input_limit < 2 ^ 62
 
--- the state is sound, and its counters and the settings are in their bounds
-pub record IsKept (rules : Rules) (ledger : Ledger) : Type 0 where
+-- the settings are in their bounds, what holds between two events holds of the state and the links beside it, and the counters are at least 1
+pub record IsKept (rules : Rules) (links : Emitted) (ledger : Ledger) : Type 0 where
   pub settings : AreSettings ledger.settings
-  pub sound : Sound rules ledger.state
-  pub small : AreSmall ledger.state
+  pub steady : IsSteady rules links ledger.state
   pub begun : AreBegun ledger.state

@@ -1,10 +1,9 @@
-//! What a call makes of the state, and what it answers.
+//! What a call answers.
 ghost use Rattle.std.specs.Prelude.{◌≡◌};
-ghost use Rattle.cat_core.specs.Answer.{answer_of, core_fault, replied, state_of};
+ghost use Rattle.cat_core.specs.Answer.{answer_with, core_fault, event_answer, replied};
 
 use crate::fault::CoreFault;
-use cat_events::stepped::Stepped;
-use cat_model::types::{Fault, State};
+use cat_model::types::Fault;
 use std::alloc::AllocError;
 
 /// A refusal of the abstract catalogue, as calls answer it.
@@ -19,17 +18,13 @@ pub fn core_fault(fault: Fault) -> CoreFault
     }
 }
 
-/// Takes the state that an event gives, or answers its refusal.
-pub fn taken_in(came: Result<Stepped, AllocError>, state: &mut State) -> Result<(), CoreFault>
-    ensures state { state.new ≡ state_of came state.old }
-    ensures answer { result ≡ answer_of came }
+/// What is answered to an event whose reply says nothing more.
+pub fn answered(came: Result<Option<Fault>, AllocError>) -> Result<(), CoreFault>
+    ensures { result ≡ event_answer came }
 {
     match came {
-        Ok(Stepped::Acts(n)) => {
-            *state = n;
-            Ok(())
-        }
-        Ok(Stepped::Refused(fault)) => Err(core_fault(fault)),
+        Ok(None) => Ok(()),
+        Ok(Some(fault)) => Err(core_fault(fault)),
         Err(_) => Err(CoreFault::NoMemory),
     }
 }
@@ -41,5 +36,16 @@ pub fn with_reply<T: Drop>(answer: Result<(), CoreFault>, reply: T) -> Result<T,
     match answer {
         Ok(()) => Ok(reply),
         Err(fault) => Err(fault),
+    }
+}
+
+/// What is answered to an event that gives its reply with its refusal.
+pub fn answered_with<T: Drop>(came: Result<(Option<Fault>, T), AllocError>) -> Result<T, CoreFault>
+    ensures { result ≡ answer_with came }
+{
+    match came {
+        Ok((None, reply)) => Ok(reply),
+        Ok((Some(fault), _)) => Err(core_fault(fault)),
+        Err(_) => Err(CoreFault::NoMemory),
     }
 }

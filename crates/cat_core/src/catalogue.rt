@@ -7,32 +7,35 @@ ghost use Rattle.cat_model.specs.Fresh.{IsFresh};
 ghost use Rattle.cat_model.specs.Given.{given};
 ghost use Rattle.cat_model.specs.Reply.{acted, counts, finished, issues_at, next_known, next_stitch, placed, resting, state_counts, taken, waiting};
 ghost use Rattle.cat_model.specs.Settle.{not_begun, try_settle};
-ghost use Rattle.cat_model.specs.Sound.{AreBegun, AreSmall, Quiet, Sound, its_number};
+ghost use Rattle.cat_model.specs.Sound.{AreBegun, Quiet, its_number};
+ghost use Rattle.cat_events.specs.Coming.{HasCome, IsSteady};
 ghost use Rattle.cat_events.specs.Stepped.{come_to, AreMoments};
 ghost use Rattle.cat_core.specs.Answer.{IsSettled, settle_answer};
 ghost use Rattle.cat_model.specs.Step.{ref_at, refusal, source_at, start, step};
 ghost use Rattle.cat_model.specs.Step.Event.{Finish, Forget, ForgetNumber, Mutate, PutStitch, Refresh, ShelfDrop, ShelfPut, Take};
 
-use crate::called::{core_fault, taken_in, with_reply};
-use crate::extra::{forget_number_step, refresh_step};
+use crate::called::{answered, answered_with, core_fault, with_reply};
+use crate::extra::forget_number;
 use crate::fault::{CoreFault, Cut};
 use crate::known::{next_of, with_number};
 use crate::ledger::Ledger;
-use crate::orders::{finish_reply, take_came};
+use crate::orders::{finish_reply, take_first};
 use crate::questions::{
     counts_of, is_quiet, issues_of, number_of, rests, stitch_after, stitch_reply,
 };
 use crate::waiting::waiting_at;
-use cat_events::change::{forget_step, shelf_drop_step, shelf_put_step};
+use cat_events::change::{forget, shelf_drop, shelf_put};
+pub use cat_events::done::{Done, Stitched};
+use cat_events::finish::finish;
 use cat_events::given::{given_by, serial_of};
-use cat_events::lease::finish_step;
-use cat_events::mutation::{last_serial, mutation_step};
-use cat_events::stepped::Stepped;
-use cat_events::stitch::stitch_step;
+use cat_events::lease::refresh;
+use cat_events::mutation::{last_serial, mutate};
+use cat_events::stitch::put_stitch;
 use cat_hold::hold::row_of;
 use cat_hold::layers::Layers;
+use cat_links::links::Links;
 use cat_model::types::{
-    Acted, Counts, Finished, Order, Placed, Progress, Row, Settings, State, StateCounts,
+    Acted, Counts, Fault, Finished, Order, Placed, Progress, Row, Settings, State, StateCounts,
     StitchOrder, Stop,
 };
 use cat_ref::reference::Ref;
@@ -42,16 +45,16 @@ use cat_types::input::Mutation;
 use cat_types::issue::Issue;
 use cat_types::node::Node;
 use cat_types::table::{Listing, Table};
-use cat_types::work::Outcome;
 use std::alloc::{AllocError, Global};
 use std::marker::Model;
 use std::mem;
 
-/// A catalogue over its lower layers.
+/// A catalogue over its lower layers. Beside its state it keeps what each kept output emits.
 #[derive(Drop)]
 pub struct Catalogue<L: Layers> {
     layers: L,
     ledger: Ledger,
+    links: Links,
 }
 
 impl<L: Layers> Model for Catalogue<L> {
@@ -65,7 +68,7 @@ impl<L: Layers> Model for Catalogue<L> {
 
     ghost view = { λ a. a.ledger };
 
-    ghost invariant = { λ a. IsKept L.rules a.ledger };
+    ghost invariant = { λ a. IsKept L.rules a.links a.ledger };
 }
 
 fn empty_state(alloc: Global) -> State
@@ -87,22 +90,24 @@ fn empty_state(alloc: Global) -> State
     }
 }
 
-// What a mutation with a new serial comes to.
-fn mutation_came<L: Layers>(
+// A mutation with a new serial, with all that follows.
+fn mutated<L: Layers>(
     alloc: Global,
     layers: &L,
     settings: &Settings,
     provider: &Text,
     mutation: &Mutation,
-    m: &State,
-) -> Result<Stepped, AllocError>
-    requires small { AreSmall m.now }
-    requires later { (source_at (get m.now.providers provider.now)).serial < (given provider.now mutation.now).serial }
-    ensures { IfOk result (λ o. o ≡ come_to L.rules settings.now (Mutate provider.now (given provider.now mutation.now)) m.now) }
+    state: &mut State,
+    links: &mut Links,
+) -> Result<Option<Fault>, AllocError>
+    requires steady { IsSteady L.rules links.old state.old }
+    requires later { (source_at (get state.old.providers provider.now)).serial < (given provider.now mutation.now).serial }
+    ensures { HasCome L.rules (come_to L.rules settings.now (Mutate provider.now (given provider.now mutation.now)) state.old) result state.old state.new links.new }
 {
-    let x = given_by(alloc, provider, mutation)?;
-    let o = mutation_step(alloc, layers, settings, provider, &x, m)?;
-    Ok(o)
+    match given_by(alloc, provider, mutation) {
+        Ok(x) => mutate(alloc, layers, settings, provider, &x, state, links),
+        Err(refused) => Err(refused),
+    }
 }
 
 fn begun(state: State) -> Progress
@@ -152,20 +157,19 @@ fn settle_state<L: Layers>(
     settings: &Settings,
     now: u64,
     state: &mut State,
+    links: &mut Links,
 ) -> Result<Counts, Cut>
-    requires small { AreSmall state.old }
+    requires steady { IsSteady L.rules links.old state.old }
     requires begun { AreBegun state.old }
-    requires sound { Sound L.rules state.old }
     requires moments { AreMoments settings.now now }
     requires interval { 1 ≤ settings.now.interval }
     ensures settled { IsSettled L.rules settings.now now state.old result state.new }
-    ensures small { AreSmall state.new }
+    ensures steady { IsSteady L.rules links.new state.new }
     ensures begun { AreBegun state.new }
-    ensures sound { Sound L.rules state.new }
 {
     let taken = mem::replace(state, empty_state(alloc));
     let mut p = begun(taken);
-    let came = settled(alloc, layers, settings, now, &mut p);
+    let came = settled(alloc, layers, settings, now, &mut p, links);
     let reply = settle_reply(came, &p);
     *state = p.state;
     reply
@@ -185,6 +189,7 @@ impl<L: Layers> Catalogue<L> {
         Catalogue {
             layers,
             ledger: Ledger { settings, state },
+            links: Links::empty(alloc),
         }
     }
 
@@ -210,15 +215,16 @@ impl<L: Layers> Catalogue<L> {
         if serial == last {
             return Ok(Acted::Again);
         }
-        let came = mutation_came(
+        let came = mutated(
             alloc,
             &self.layers,
             &self.ledger.settings,
             provider,
             mutation,
-            &self.ledger.state,
+            &mut self.ledger.state,
+            &mut self.links,
         );
-        with_reply(taken_in(came, &mut self.ledger.state), Acted::Now)
+        with_reply(answered(came), Acted::Now)
     }
 
     /// Puts a text on the shelf; every record that reads its name is due.
@@ -227,15 +233,16 @@ impl<L: Layers> Catalogue<L> {
         ensures settings { self.new.settings ≡ self.old.settings }
         ensures reply { IsReply result (refusal L.rules self.old.settings (ShelfPut name.now body.now) self.old.state) tt }
     {
-        let came = shelf_put_step(
+        let came = shelf_put(
             alloc,
             &self.layers,
             &self.ledger.settings,
             name,
             body,
-            &self.ledger.state,
+            &mut self.ledger.state,
+            &mut self.links,
         );
-        taken_in(came, &mut self.ledger.state)
+        answered(came)
     }
 
     /// Drops a text from the shelf.
@@ -244,14 +251,15 @@ impl<L: Layers> Catalogue<L> {
         ensures settings { self.new.settings ≡ self.old.settings }
         ensures reply { IsReply result (refusal L.rules self.old.settings (ShelfDrop name.now) self.old.state) tt }
     {
-        let came = shelf_drop_step(
+        let came = shelf_drop(
             alloc,
             &self.layers,
             &self.ledger.settings,
             name,
-            &self.ledger.state,
+            &mut self.ledger.state,
+            &mut self.links,
         );
-        taken_in(came, &mut self.ledger.state)
+        answered(came)
     }
 
     /// Forgets a record or an orphan with all that it emitted. What is still offered for the reference gets a new number.
@@ -260,14 +268,15 @@ impl<L: Layers> Catalogue<L> {
         ensures settings { self.new.settings ≡ self.old.settings }
         ensures reply { IsReply result (refusal L.rules self.old.settings (Forget reference.now) self.old.state) tt }
     {
-        let came = forget_step(
+        let came = forget(
             alloc,
             &self.layers,
             &self.ledger.settings,
             reference,
-            &self.ledger.state,
+            &mut self.ledger.state,
+            &mut self.links,
         );
-        taken_in(came, &mut self.ledger.state)
+        answered(came)
     }
 
     /// Runs rounds until no record is due at this moment, and then stitches all marked references.
@@ -286,6 +295,7 @@ impl<L: Layers> Catalogue<L> {
             &self.ledger.settings,
             now,
             &mut self.ledger.state,
+            &mut self.links,
         )
     }
 
@@ -294,44 +304,49 @@ impl<L: Layers> Catalogue<L> {
     pub fn put_stitch(
         &mut self,
         alloc: Global,
-        order: &StitchOrder,
-        document: &Node,
+        stitched: &Stitched<'_, L>,
     ) -> Result<Placed, CoreFault>
-        requires { document.now ≡ L.rules.doc order.now.parts }
-        ensures state { self.new.state ≡ after result self.old.state (step L.rules self.old.settings (PutStitch order.now) self.old.state) }
+        ensures state { self.new.state ≡ after result self.old.state (step L.rules self.old.settings (PutStitch stitched.now.order.now) self.old.state) }
         ensures settings { self.new.settings ≡ self.old.settings }
-        ensures reply { IsReply result (refusal L.rules self.old.settings (PutStitch order.now) self.old.state) (placed L.rules order.now self.old.state) }
+        ensures reply { IsReply result (refusal L.rules self.old.settings (PutStitch stitched.now.order.now) self.old.state) (placed L.rules stitched.now.order.now self.old.state) }
     {
-        match stitch_reply(alloc, &self.layers, order, &self.ledger.state) {
+        match stitch_reply(
+            alloc,
+            &self.layers,
+            stitched,
+            &self.links,
+            &self.ledger.state,
+        ) {
             Ok(placed) => {
-                let came = stitch_step(
+                let came = put_stitch(
                     alloc,
                     &self.layers,
                     &self.ledger.settings,
-                    order,
-                    document,
-                    &self.ledger.state,
+                    stitched,
+                    &mut self.ledger.state,
+                    &self.links,
                 );
-                with_reply(taken_in(came, &mut self.ledger.state), placed)
+                with_reply(answered(came), placed)
             }
             Err(_) => Err(CoreFault::NoMemory),
         }
     }
 
-    /// Makes a record due at once.
+    /// Makes a record due at once. No memory is taken.
     pub fn refresh(&mut self, alloc: Global, reference: &Ref) -> Result<(), CoreFault>
         ensures state { self.new.state ≡ after result self.old.state (step L.rules self.old.settings (Refresh reference.now) self.old.state) }
         ensures settings { self.new.settings ≡ self.old.settings }
         ensures reply { IsReply result (refusal L.rules self.old.settings (Refresh reference.now) self.old.state) tt }
+        ensures memory { result ≡ Err CoreFault.NoMemory → ⊥ }
     {
-        let came = refresh_step(
+        let fault = refresh(
             alloc,
             &self.layers,
             &self.ledger.settings,
             reference,
-            &self.ledger.state,
+            &mut self.ledger.state,
         );
-        taken_in(came, &mut self.ledger.state)
+        answered(Ok(fault))
     }
 
     /// Forgets the record or orphan with this number.
@@ -340,14 +355,15 @@ impl<L: Layers> Catalogue<L> {
         ensures settings { self.new.settings ≡ self.old.settings }
         ensures reply { IsReply result (refusal L.rules self.old.settings (ForgetNumber number) self.old.state) tt }
     {
-        let came = forget_number_step(
+        let came = forget_number(
             alloc,
             &self.layers,
             &self.ledger.settings,
             number,
-            &self.ledger.state,
+            &mut self.ledger.state,
+            &mut self.links,
         );
-        taken_in(came, &mut self.ledger.state)
+        answered(came)
     }
 
     /// The reference of a record or an orphan with this number. No memory is taken.
@@ -371,16 +387,14 @@ impl<L: Layers> Catalogue<L> {
         ensures settings { self.new.settings ≡ self.old.settings }
         ensures reply { IsReply result (refusal L.rules self.old.settings (Take now) self.old.state) (taken L.rules self.old.settings now self.old.state) }
     {
-        match take_came(
+        let came = take_first(
             alloc,
             &self.layers,
             &self.ledger.settings,
             now,
-            &self.ledger.state,
-        ) {
-            Ok(x) => with_reply(taken_in(Ok(x.0), &mut self.ledger.state), x.1),
-            Err(_) => Err(CoreFault::NoMemory),
-        }
+            &mut self.ledger.state,
+        );
+        answered_with(came)
     }
 
     /// Takes in the result of an order's work, where the order is that of the present lease. Any other is late and changes
@@ -388,28 +402,26 @@ impl<L: Layers> Catalogue<L> {
     pub fn finish(
         &mut self,
         alloc: Global,
-        order: &Order,
-        outcome: &Outcome,
+        done: &Done<'_, L>,
         now: u64,
     ) -> Result<Finished, CoreFault>
-        requires moment { now < 2 ^ 53 }
-        requires outcome { outcome.now ≡ L.rules.result order.now.work }
-        ensures state { self.new.state ≡ after result self.old.state (step L.rules self.old.settings (Finish order.now now) self.old.state) }
+        requires { now < 2 ^ 53 }
+        ensures state { self.new.state ≡ after result self.old.state (step L.rules self.old.settings (Finish done.now.order.now now) self.old.state) }
         ensures settings { self.new.settings ≡ self.old.settings }
-        ensures reply { IsReply result (refusal L.rules self.old.settings (Finish order.now now) self.old.state) (finished L.rules order.now self.old.state) }
+        ensures reply { IsReply result (refusal L.rules self.old.settings (Finish done.now.order.now now) self.old.state) (finished L.rules done.now.order.now self.old.state) }
     {
-        match finish_reply(alloc, &self.layers, order, outcome, &self.ledger.state) {
+        match finish_reply(alloc, &self.layers, done, &self.ledger.state) {
             Ok(reply) => {
-                let came = finish_step(
+                let came = finish(
                     alloc,
                     &self.layers,
                     &self.ledger.settings,
-                    order,
-                    outcome,
+                    done,
                     now,
-                    &self.ledger.state,
+                    &mut self.ledger.state,
+                    &mut self.links,
                 );
-                with_reply(taken_in(came, &mut self.ledger.state), reply)
+                with_reply(answered(came), reply)
             }
             Err(_) => Err(CoreFault::NoMemory),
         }
@@ -421,7 +433,7 @@ impl<L: Layers> Catalogue<L> {
         ensures ok { IfOk result (λ o. o ≡ next_stitch L.rules self.now.state after) }
         ensures err { IfErr result (λ e. e ≡ CoreFault.NoMemory) }
     {
-        match stitch_after(alloc, &self.layers, &self.ledger.state, after) {
+        match stitch_after(alloc, &self.layers, &self.links, &self.ledger.state, after) {
             Ok(order) => Ok(order),
             Err(_) => Err(CoreFault::NoMemory),
         }

@@ -1,73 +1,23 @@
-//! Events that the calls make of others: a take of what is due first, a refresh, and a forget by number.
-ghost use Rattle.std.specs.Prelude.{◌≡◌, ◌&&◌, IfOk, ℕ, List, Option, Bool, is_some, option_map, option_and_then};
+//! What calls make of other events: a take of what is due first, and a forget by number.
+ghost use Rattle.std.specs.Prelude.{◌≡◌, ◌&&◌, cond, IfOk, ℕ, List, Option, Bool, option_map};
 ghost use Rattle.std.specs.declared.option.Option.TheVariants.{None, Some};
 ghost use Rattle.std.specs.List.{filter};
 ghost use Rattle.cat_types.specs.Table.{first, get, keys};
 ghost use Rattle.cat_model.specs.Catalogue.{known_refs};
-ghost use Rattle.cat_model.specs.Reply.{finished, taken};
-ghost use Rattle.cat_model.specs.Settle.{order};
-ghost use Rattle.cat_model.specs.Sound.{AreSmall};
-ghost use Rattle.cat_model.specs.Step.{due_at, earlier, earliest, has_number, is_free, may_take, next_taken, ref_at, refresh};
-ghost use Rattle.cat_model.specs.Step.Event.{ForgetNumber, Refresh};
+ghost use Rattle.cat_model.specs.Step.{due_at, earlier, earliest, has_number, is_free, may_take, next_taken, ref_at};
+ghost use Rattle.cat_model.specs.Step.Event.{ForgetNumber};
+ghost use Rattle.cat_events.specs.Coming.{HasCome, IsSteady};
 ghost use Rattle.cat_events.specs.Stepped.{come_to};
 
-use cat_events::change::forget_step;
-use cat_events::refusal::unless_spent;
-use cat_events::stepped::Stepped;
+use cat_events::change::forget;
 use cat_frame::marks::all_refs;
-use cat_hold::build::{Passes, filtered, first_of};
+use cat_hold::build::{Passes, first_of};
 use cat_hold::layers::Layers;
+use cat_links::links::Links;
 use cat_model::types::{Fault, Lease, Orphan, Record, Settings, State};
 use cat_ref::reference::Ref;
 use cat_types::table::Copied;
 use std::alloc::{AllocError, Global};
-
-fn has_record(m: &State, reference: &Ref) -> bool
-    ensures { result ≡ is_some (get m.now.records reference.now) }
-{
-    m.records.get(reference).is_some()
-}
-
-fn refreshed(
-    alloc: Global,
-    reference: &Ref,
-    m: &State,
-    kept: Option<&Record>,
-) -> Result<State, AllocError>
-    ensures { IfOk result (λ n. n ≡ refresh reference.now m.now (option_map (λ x. x.now) kept.entry)) }
-{
-    match kept {
-        None => m.duplicate(alloc),
-        Some(kept) => {
-            let mut again = kept.duplicate(alloc)?;
-            again.lease = None;
-            again.due = 0;
-            let mut n = m.duplicate(alloc)?;
-            n.records.put(reference.duplicate(alloc)?, again)?;
-            Ok(n)
-        }
-    }
-}
-
-/// What a refresh comes to.
-pub fn refresh_step<L: Layers>(
-    alloc: Global,
-    _layers: &L,
-    settings: &Settings,
-    reference: &Ref,
-    m: &State,
-) -> Result<Stepped, AllocError>
-    ensures { IfOk result (λ o. o ≡ come_to L.rules settings.now (Refresh reference.now) m.now) }
-{
-    let _interval = settings.interval;
-    if has_record(m, reference) {
-        let n = refreshed(alloc, reference, m, m.records.get(reference))?;
-        let o = unless_spent(n);
-        Ok(o)
-    } else {
-        Ok(Stepped::Refused(Fault::NotFound))
-    }
-}
 
 /// Whether a record, or else an orphan, has this number.
 pub fn numbered(number: u64, kept: Option<&Record>, orphan: Option<&Orphan>) -> bool
@@ -109,23 +59,22 @@ pub fn ref_with(alloc: Global, m: &State, number: u64) -> Result<Option<Ref>, Al
     first_of(alloc, all.as_slice(), &test)
 }
 
-/// What a forget by number comes to.
-pub fn forget_number_step<L: Layers>(
+/// Forgets the record or orphan with this number, with all that follows.
+pub fn forget_number<L: Layers>(
     alloc: Global,
     layers: &L,
     settings: &Settings,
     number: u64,
-    m: &State,
-) -> Result<Stepped, AllocError>
-    requires { AreSmall m.now }
-    ensures { IfOk result (λ o. o ≡ come_to L.rules settings.now (ForgetNumber number) m.now) }
+    state: &mut State,
+    links: &mut Links,
+) -> Result<Option<Fault>, AllocError>
+    requires { IsSteady L.rules links.old state.old }
+    ensures { HasCome L.rules (come_to L.rules settings.now (ForgetNumber number) state.old) result state.old state.new links.new }
 {
-    match ref_with(alloc, m, number)? {
-        None => Ok(Stepped::Refused(Fault::NotFound)),
-        Some(reference) => {
-            let o = forget_step(alloc, layers, settings, &reference, m)?;
-            Ok(o)
-        }
+    match ref_with(alloc, state, number) {
+        Ok(None) => Ok(Some(Fault::NotFound)),
+        Ok(Some(reference)) => forget(alloc, layers, settings, &reference, state, links),
+        Err(refused) => Err(refused),
     }
 }
 
@@ -147,20 +96,6 @@ fn may(now: u64, kept: Option<&Record>) -> bool
     }
 }
 
-#[derive(Drop)]
-struct MayTake<'a> {
-    m: &'a State,
-    now: u64,
-}
-
-impl Passes<Ref> for MayTake<'_> {
-    ghost passes = { λ s r. may_take s.now (get s.m.now.records r) };
-
-    fn test(&self, _alloc: Global, key: &Ref) -> Result<bool, AllocError> {
-        Ok(may(self.now, self.m.records.get(key)))
-    }
-}
-
 fn moment_of(kept: Option<&Record>) -> u64
     ensures { result ≡ due_at (option_map (λ x. x.now) kept.entry) }
 {
@@ -171,44 +106,56 @@ fn moment_of(kept: Option<&Record>) -> u64
 }
 
 // The first of two in order of due moment, and then of place.
-fn sooner(
-    alloc: Global,
-    m: &State,
-    reference: &Ref,
-    best: Option<Ref>,
-) -> Result<Option<Ref>, AllocError>
-    ensures { IfOk result (λ r. r ≡ earlier m.now reference.now best) }
+fn sooner<'a>(m: &State, reference: &'a Ref, best: Option<&'a Ref>) -> &'a Ref
+    ensures { Some result.now ≡ earlier m.now reference.now (option_map (λ r. r.now) best.entry) }
 {
     match best {
-        None => Ok(Some(reference.duplicate(alloc)?)),
+        None => reference,
         Some(best) => {
-            if moment_of(m.records.get(reference)) <= moment_of(m.records.get(&best)) {
-                Ok(Some(reference.duplicate(alloc)?))
+            if moment_of(m.records.get(reference)) <= moment_of(m.records.get(best)) {
+                reference
             } else {
-                Ok(Some(best))
+                best
             }
         }
     }
 }
 
-fn soonest(alloc: Global, m: &State, refs: &[Ref]) -> Result<Option<Ref>, AllocError>
-    ensures { IfOk result (λ r. r ≡ earliest m.now refs.now) }
+// The first of two, where the first of them counts only if it may be taken.
+fn sooner_taken<'a>(
+    m: &State,
+    now: u64,
+    reference: &'a Ref,
+    best: Option<&'a Ref>,
+) -> Option<&'a Ref>
+    ensures { option_map (λ r. r.now) result ≡ cond (may_take now (get m.now.records reference.now)) (earlier m.now reference.now (option_map (λ r. r.now) best.entry)) (option_map (λ r. r.now) best.entry) }
 {
-    let mut best = None;
-    let mut left = refs.len();
-    while left > 0 {
-        left -= 1;
-        best = sooner(alloc, m, &refs[left], best)?;
+    if may(now, m.records.get(reference)) {
+        Some(sooner(m, reference, best))
+    } else {
+        best
     }
-    Ok(best)
 }
 
-/// The record that a take at this moment leases.
+fn soonest(m: &State, now: u64) -> Option<&Ref>
+    ensures { option_map (λ r. r.now) result ≡ next_taken now m.now }
+{
+    let entries = m.records.as_slice();
+    let mut best = None;
+    let mut left = entries.len();
+    while left > 0 {
+        left -= 1;
+        best = sooner_taken(m, now, &entries[left].0, best);
+    }
+    best
+}
+
+/// The record that a take at this moment leases. Only its reference is copied.
 pub fn take_ref(alloc: Global, m: &State, now: u64) -> Result<Option<Ref>, AllocError>
     ensures { IfOk result (λ r. r ≡ next_taken now m.now) }
 {
-    let all = m.records.keys(alloc)?;
-    let test = MayTake { m, now };
-    let free = filtered(alloc, all.as_slice(), &test)?;
-    soonest(alloc, m, free.as_slice())
+    match soonest(m, now) {
+        None => Ok(None),
+        Some(reference) => Ok(Some(reference.duplicate(alloc)?)),
+    }
 }

@@ -1,13 +1,17 @@
 //! What is asked of a state.
 ghost use Rattle.std.specs.Prelude.{◌≡◌, ◌≤◌, ◌&&◌, IfOk, ℕ, List, Option, Bool, length, option_map};
 ghost use Rattle.cat_types.specs.Table.{get, keys};
+ghost use Rattle.cat_frame.specs.Linked.{AreLinked, AreRecorded};
 ghost use Rattle.cat_model.specs.Catalogue.{holding};
 ghost use Rattle.cat_model.specs.Reply.{is_leased, is_live, is_quiet, issues_at, leased_refs, mark_above, next_mark, next_stitch, placed, resting, state_counts};
 ghost use Rattle.cat_model.specs.Settle.{due_refs, is_due, is_empty, stitch_order};
 ghost use Rattle.cat_model.specs.Sound.{its_number};
 
-use cat_events::stitch::{present_parts, present_stitch};
+use cat_events::done::Stitched;
+use cat_events::present::present_stitch;
+use cat_frame::parts::present_parts;
 use cat_hold::layers::Layers;
+use cat_links::links::Links;
 use cat_model::types::{Lease, Placed, Record, State, StateCounts, StitchOrder};
 use cat_ref::reference::Ref;
 use cat_settle::order::due;
@@ -143,16 +147,19 @@ fn first_above(marks: &[(Ref, u64)], after: u64) -> Option<&(Ref, u64)>
 pub fn stitch_after<L: Layers>(
     alloc: Global,
     layers: &L,
+    links: &Links,
     m: &State,
     after: u64,
 ) -> Result<Option<StitchOrder>, AllocError>
+    requires linked { AreLinked L.rules links.now m.now }
+    requires recorded { AreRecorded m.now }
     ensures { IfOk result (λ o. o ≡ next_stitch L.rules m.now after) }
 {
     let sorted = sorted_marks(alloc, &m.marks)?;
     match first_above(sorted.as_slice(), after) {
         None => Ok(None),
         Some(mark) => {
-            let parts = present_parts(alloc, layers, m, &mark.0)?;
+            let parts = present_parts(alloc, layers, links, m, &mark.0)?;
             match parts {
                 None => Ok(None),
                 Some(parts) => Ok(Some(StitchOrder {
@@ -169,12 +176,16 @@ pub fn stitch_after<L: Layers>(
 pub fn stitch_reply<L: Layers>(
     alloc: Global,
     layers: &L,
-    order: &StitchOrder,
+    stitched: &Stitched<'_, L>,
+    links: &Links,
     m: &State,
 ) -> Result<Placed, AllocError>
-    ensures { IfOk result (λ x. x ≡ placed L.rules order.now m.now) }
+    requires linked { AreLinked L.rules links.now m.now }
+    requires recorded { AreRecorded m.now }
+    ensures { IfOk result (λ x. x ≡ placed L.rules stitched.now.order.now m.now) }
 {
-    if present_stitch(alloc, layers, order, m)? {
+    let order = stitched.order();
+    if present_stitch(alloc, layers, order, m, links)? {
         Ok(Placed::Counted)
     } else {
         Ok(Placed::Late(m.marks.get(&order.reference).copied()))

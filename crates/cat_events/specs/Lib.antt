@@ -1,1 +1,3 @@
 pub mod Stepped
+pub mod Coming
+pub mod Alone

@@ -6,15 +6,17 @@ ghost use Rattle.cat_model.specs.declared.types.Origin.TheVariants.{Entity};
 ghost use Rattle.cat_model.specs.Sound.{AreSmall};
 ghost use Rattle.cat_model.specs.Step.{forgotten, replaced, without_key};
 ghost use Rattle.cat_model.specs.Step.Event.{Forget, ShelfDrop, ShelfPut};
+ghost use Rattle.cat_events.specs.Coming.{HasCome, IsLinkedStep, IsSteady, seen};
 ghost use Rattle.cat_events.specs.Stepped.{come_to, dropped, is_known, shelved};
 
 use crate::mutation::input_fault;
 use crate::refusal::{unless, unless_spent};
 use crate::rows::replaced_rows;
-use crate::stepped::Stepped;
+use crate::stepped::{Step, take_in};
 use crate::without::without;
 use cat_frame::frame::framed;
 use cat_hold::layers::Layers;
+use cat_links::links::Links;
 use cat_model::types::{Fault, Leaving, Numbered, Origin, Settings, State};
 use cat_ref::reference::Ref;
 use cat_tree::text::Text;
@@ -32,22 +34,24 @@ fn with_text(alloc: Global, name: &Text, text: &Text, m: &State) -> Result<State
     Ok(n)
 }
 
-/// What putting a text on the shelf comes to.
-pub fn shelf_put_step<L: Layers>(
+// What putting a text on the shelf comes to.
+fn shelf_put_step<L: Layers>(
     alloc: Global,
     layers: &L,
     settings: &Settings,
     name: &Text,
     text: &Text,
     m: &State,
-) -> Result<Stepped, AllocError>
-    requires { AreSmall m.now }
-    ensures { IfOk result (λ o. o ≡ come_to L.rules settings.now (ShelfPut name.now text.now) m.now) }
+    links: &Links,
+) -> Result<Step, AllocError>
+    requires { IsSteady L.rules links.now m.now }
+    ensures come { IfOk result (λ o. seen o ≡ come_to L.rules settings.now (ShelfPut name.now text.now) m.now) }
+    ensures linked { IfOk result (λ o. IsLinkedStep L.rules o) }
 {
     let n = with_text(alloc, name, text, m)?;
-    let f = framed(alloc, layers, Leaving::Deleted, m, n)?;
+    let (f, plan) = framed(alloc, layers, Leaving::Deleted, &None, m, links, n)?;
     let fault = input_fault(alloc, layers, settings, &f)?;
-    let o = unless(fault, f);
+    let o = unless(fault, f, plan);
     Ok(o)
 }
 
@@ -69,24 +73,26 @@ fn has_name(m: &State, name: &Text) -> bool
     m.shelf.get(name).is_some()
 }
 
-/// What dropping a text of the shelf comes to.
-pub fn shelf_drop_step<L: Layers>(
+// What dropping a text of the shelf comes to.
+fn shelf_drop_step<L: Layers>(
     alloc: Global,
     layers: &L,
     settings: &Settings,
     name: &Text,
     m: &State,
-) -> Result<Stepped, AllocError>
-    requires { AreSmall m.now }
-    ensures { IfOk result (λ o. o ≡ come_to L.rules settings.now (ShelfDrop name.now) m.now) }
+    links: &Links,
+) -> Result<Step, AllocError>
+    requires { IsSteady L.rules links.now m.now }
+    ensures come { IfOk result (λ o. seen o ≡ come_to L.rules settings.now (ShelfDrop name.now) m.now) }
+    ensures linked { IfOk result (λ o. IsLinkedStep L.rules o) }
 {
     if has_name(m, name) {
         let n = without_text(alloc, name, m)?;
-        let f = framed(alloc, layers, Leaving::Deleted, m, n)?;
-        let o = unless_spent(f);
+        let (f, plan) = framed(alloc, layers, Leaving::Deleted, &None, m, links, n)?;
+        let o = unless_spent(f, plan);
         Ok(o)
     } else {
-        Ok(Stepped::Refused(Fault::NotFound))
+        Ok(Step::Refused(Fault::NotFound))
     }
 }
 
@@ -126,23 +132,75 @@ fn without_ref(alloc: Global, reference: &Ref, m: &State) -> Result<State, Alloc
     Ok(n)
 }
 
-/// What forgetting a reference comes to.
-pub fn forget_step<L: Layers>(
+// What forgetting a reference comes to.
+fn forget_step<L: Layers>(
     alloc: Global,
     layers: &L,
     settings: &Settings,
     reference: &Ref,
     m: &State,
-) -> Result<Stepped, AllocError>
-    requires { AreSmall m.now }
-    ensures { IfOk result (λ o. o ≡ come_to L.rules settings.now (Forget reference.now) m.now) }
+    links: &Links,
+) -> Result<Step, AllocError>
+    requires { IsSteady L.rules links.now m.now }
+    ensures come { IfOk result (λ o. seen o ≡ come_to L.rules settings.now (Forget reference.now) m.now) }
+    ensures linked { IfOk result (λ o. IsLinkedStep L.rules o) }
 {
     if is_known(m, reference) {
         let n = without_ref(alloc, reference, m)?;
-        let f = framed(alloc, layers, Leaving::Deleted, m, n)?;
-        let o = unless_spent(f);
+        let own = Some(reference.duplicate(alloc)?);
+        let (f, plan) = framed(alloc, layers, Leaving::Deleted, &own, m, links, n)?;
+        let o = unless_spent(f, plan);
         Ok(o)
     } else {
-        Ok(Stepped::Refused(Fault::NotFound))
+        Ok(Step::Refused(Fault::NotFound))
     }
+}
+
+/// Puts a text on the shelf, with all that follows.
+pub fn shelf_put<L: Layers>(
+    alloc: Global,
+    layers: &L,
+    settings: &Settings,
+    name: &Text,
+    text: &Text,
+    state: &mut State,
+    links: &mut Links,
+) -> Result<Option<Fault>, AllocError>
+    requires { IsSteady L.rules links.old state.old }
+    ensures { HasCome L.rules (come_to L.rules settings.now (ShelfPut name.now text.now) state.old) result state.old state.new links.new }
+{
+    let step = shelf_put_step(alloc, layers, settings, name, text, state, links)?;
+    Ok(take_in(step, state, links))
+}
+
+/// Drops a text from the shelf, with all that follows.
+pub fn shelf_drop<L: Layers>(
+    alloc: Global,
+    layers: &L,
+    settings: &Settings,
+    name: &Text,
+    state: &mut State,
+    links: &mut Links,
+) -> Result<Option<Fault>, AllocError>
+    requires { IsSteady L.rules links.old state.old }
+    ensures { HasCome L.rules (come_to L.rules settings.now (ShelfDrop name.now) state.old) result state.old state.new links.new }
+{
+    let step = shelf_drop_step(alloc, layers, settings, name, state, links)?;
+    Ok(take_in(step, state, links))
+}
+
+/// Forgets a record or an orphan, with all that follows.
+pub fn forget<L: Layers>(
+    alloc: Global,
+    layers: &L,
+    settings: &Settings,
+    reference: &Ref,
+    state: &mut State,
+    links: &mut Links,
+) -> Result<Option<Fault>, AllocError>
+    requires { IsSteady L.rules links.old state.old }
+    ensures { HasCome L.rules (come_to L.rules settings.now (Forget reference.now) state.old) result state.old state.new links.new }
+{
+    let step = forget_step(alloc, layers, settings, reference, state, links)?;
+    Ok(take_in(step, state, links))
 }

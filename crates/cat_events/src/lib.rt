@@ -1,13 +1,18 @@
 //! The events of the catalogue: mutations, shelf changes, refreshes, forgets, takes, finishes and stitches.
 //!
-//! It stands on cat_frame. Each event is one function from a state to what the event comes to, a refusal or the state
-//! after it, and that is the step of the abstract catalogue, exactly, unless memory runs out.
+//! It stands on cat_frame. Each event is one function that makes of a state and its links what the event comes to, which is
+//! the step of the abstract catalogue, exactly, or answers the refusal; where memory runs out, nothing has changed. Takes,
+//! refreshes, stitches and most results change their state in place, and cost what they reach.
 #![tactic(auto)]
 
+pub mod alone;
 pub mod change;
+pub mod done;
+pub mod finish;
 pub mod given;
 pub mod lease;
 pub mod mutation;
+pub mod present;
 pub mod refusal;
 pub mod rows;
 pub mod stepped;

@@ -8,15 +8,18 @@ ghost use Rattle.cat_model.specs.Catalogue.{frame};
 ghost use Rattle.cat_model.specs.Sound.{AreSmall};
 ghost use Rattle.cat_model.specs.Step.{items_after, mutated_state, or_else, put_all, source_at, spent, too_large, without};
 ghost use Rattle.cat_model.specs.Step.Event.{Mutate};
+ghost use Rattle.cat_frame.specs.Linked.{AreLinked};
+ghost use Rattle.cat_events.specs.Coming.{HasCome, IsLinkedStep, IsSteady, seen};
 ghost use Rattle.cat_events.specs.Stepped.{come_to, over_limit};
 
 use crate::refusal::{spent_of, unless};
 use crate::rows::replaced_rows;
-use crate::stepped::Stepped;
+use crate::stepped::{Step, take_in};
 use crate::without::is_same;
 use cat_frame::frame::framed;
 use cat_hold::build::{Gives, tabulated};
 use cat_hold::layers::Layers;
+use cat_links::links::{LinkPlan, Links};
 use cat_model::types::{Fault, Given, Leaving, Origin, ProviderInputs, Settings, State};
 use cat_ref::reference::Ref;
 use cat_tree::text::Text;
@@ -160,13 +163,15 @@ fn after_mutation<L: Layers>(
     p: &Text,
     x: &Given,
     m: &State,
-) -> Result<State, AllocError>
-    requires { AreSmall m.now }
-    ensures { IfOk result (λ n. n ≡ frame L.rules Deleted m.now (mutated_state p.now x.now (source_at (get m.now.providers p.now)) m.now)) }
+    links: &Links,
+) -> Result<(State, LinkPlan), AllocError>
+    requires { IsSteady L.rules links.now m.now }
+    ensures state { IfOk result (λ n. n.0 ≡ frame L.rules Deleted m.now (mutated_state p.now x.now (source_at (get m.now.providers p.now)) m.now)) }
+    ensures linked { IfOk result (λ n. AreLinked L.rules n.1.after n.0) }
 {
     let source = source_of(alloc, m, p)?;
     let n = mutated(alloc, p, x, &source, m)?;
-    let f = framed(alloc, layers, Leaving::Deleted, m, n)?;
+    let f = framed(alloc, layers, Leaving::Deleted, &None, m, links, n)?;
     Ok(f)
 }
 
@@ -186,21 +191,41 @@ pub fn input_fault<L: Layers>(
     Ok(spent_of(n))
 }
 
-/// What a mutation comes to whose serial is above the provider's last one.
-pub fn mutation_step<L: Layers>(
+// What a mutation comes to whose serial is above the provider's last one.
+fn mutation_step<L: Layers>(
     alloc: Global,
     layers: &L,
     settings: &Settings,
     p: &Text,
     x: &Given,
     m: &State,
-) -> Result<Stepped, AllocError>
-    requires small { AreSmall m.now }
+    links: &Links,
+) -> Result<Step, AllocError>
+    requires steady { IsSteady L.rules links.now m.now }
     requires later { (source_at (get m.now.providers p.now)).serial < x.now.serial }
-    ensures { IfOk result (λ o. o ≡ come_to L.rules settings.now (Mutate p.now x.now) m.now) }
+    ensures come { IfOk result (λ o. seen o ≡ come_to L.rules settings.now (Mutate p.now x.now) m.now) }
+    ensures linked { IfOk result (λ o. IsLinkedStep L.rules o) }
 {
-    let n = after_mutation(alloc, layers, p, x, m)?;
+    let (n, plan) = after_mutation(alloc, layers, p, x, m, links)?;
     let fault = input_fault(alloc, layers, settings, &n)?;
-    let o = unless(fault, n);
+    let o = unless(fault, n, plan);
     Ok(o)
+}
+
+/// A provider gives what changed, under a serial above its last one, with all that follows.
+pub fn mutate<L: Layers>(
+    alloc: Global,
+    layers: &L,
+    settings: &Settings,
+    p: &Text,
+    x: &Given,
+    state: &mut State,
+    links: &mut Links,
+) -> Result<Option<Fault>, AllocError>
+    requires steady { IsSteady L.rules links.old state.old }
+    requires later { (source_at (get state.old.providers p.now)).serial < x.now.serial }
+    ensures { HasCome L.rules (come_to L.rules settings.now (Mutate p.now x.now) state.old) result state.old state.new links.new }
+{
+    let step = mutation_step(alloc, layers, settings, p, x, state, links)?;
+    Ok(take_in(step, state, links))
 }

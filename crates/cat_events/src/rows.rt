@@ -13,7 +13,8 @@ use cat_types::input::Offered;
 use cat_types::table::{Copied, Table};
 use std::alloc::{AllocError, Global};
 
-fn is_same_origin(left: &Origin, right: &Origin) -> bool
+/// Whether two origins are one.
+pub fn is_same_origin(left: &Origin, right: &Origin) -> bool
     ensures { result ≡ same_origin left.now right.now }
 {
     match (left, right) {
@@ -74,7 +75,8 @@ fn offers_it(origin: &Origin, reference: &Ref, row: Option<&Row>) -> bool
     }
 }
 
-fn row_stands(rows: &Table<u64, Row>, origin: &Origin, reference: &Ref) -> bool
+/// Whether there is a row of this origin and reference.
+pub fn row_stands(rows: &Table<u64, Row>, origin: &Origin, reference: &Ref) -> bool
     ensures { result ≡ has_row rows.now origin.now reference.now }
 {
     for (arrival, _) in rows.as_slice() {

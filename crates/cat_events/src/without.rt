@@ -17,7 +17,7 @@ pub fn is_same<K: Key>(left: &K, right: &K) -> bool
 }
 
 #[derive(Drop)]
-struct UnlessKey<'a, K, X> {
+struct UnlessKey<'a, K: Key, X> {
     key: &'a K,
     table: &'a Table<K, X>,
 }

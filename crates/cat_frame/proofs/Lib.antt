@@ -1,2 +1,4 @@
 pub mod Framed
 pub mod Marked
+pub mod Linking
+pub mod Partly

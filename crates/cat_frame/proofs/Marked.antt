@@ -1,5 +1,5 @@
 -- Marks, documents and tickets, said of the references whose parts changed, are those of the frame.
-use Rattle.std.proofs.Common.{◌≡◌, ℕ, ◌+◌, Bool, true, false, cond, not, ◌&&◌, ◌||◌, is_some, List, [], ◌∷◌, ◌++◌, length, refl, sym, ap, ◌∙◌, true≢false}
+use Rattle.std.proofs.Common.{◌≡◌, ℕ, ◌+◌, Bool, true, false, cond, not, ◌&&◌, ◌||◌, is_some, List, [], ◌∷◌, length, refl, sym, ap, ◌∙◌, true≢false}
 use Rattle.std.specs.declared.option.Option.{Option}
 use Rattle.std.specs.declared.option.Option.TheVariants.{None, Some}
 use Rattle.std.specs.Option.{option_and_then}
@@ -12,8 +12,8 @@ use Rattle.cat_types.specs.declared.relation.Relation.{Relation}
 use Rattle.cat_types.specs.declared.parts.Parts.{Parts}
 use Rattle.cat_types.specs.declared.work.Output.{Output}
 use Rattle.cat_types.specs.Table.{Text, Map, find, get, keys, place, same_text, tabulate, text_cmp}
-use Rattle.cat_types.proofs.Tables.{text_total, text_antisymmetric, and_first, any_filter, find-tabulate, same_is, same_tabulated}
-use Rattle.cat_model.specs.Catalogue.{Ref, Rules, changed_refs, document_after, emitted, known_refs, mark_after, output_of, parts, parts_from, parts_of_orphan, parts_of_record, records_emit, remarked, same_option}
+use Rattle.cat_types.proofs.Tables.{text_total, text_antisymmetric, any_filter, find-tabulate, same_is, same_tabulated}
+use Rattle.cat_model.specs.Catalogue.{Ref, Rules, changed_refs, document_after, known_refs, mark_after, parts, parts_from, parts_of_orphan, parts_of_record, records_emit, remarked, same_option}
 use Rattle.cat_hold.specs.Parts.{has_parts}
 use Rattle.cat_frame.specs.Marks.{marked, with_parts}
 
@@ -95,12 +95,6 @@ module _ (rules : Rules) (m n : State) where
       at : (q : Ref) (v : Option Data) → option_and_then (with_parts n q) v ≡ option_and_then (λ document. document_after (parts rules n q) document) v
       at q None = refl
       at q (Some d) = document_is (parts rules n q) (has_parts (get n.orphans q) (get n.records q)) d (has_is q)
-
-  pub changed-is : (before after : List Relation) (all moved : List Ref) → before ≡ records_emit rules m → after ≡ records_emit rules n → all ≡ known_refs n
-      → moved ≡ filter (λ r. is_some (parts_from rules after r (get n.orphans r) (get n.records r)) && not (same_option rules.same_parts (parts_from rules before r (get m.orphans r) (get m.records r)) (parts_from rules after r (get n.orphans r) (get n.records r)))) all
-      → moved ≡ changed_refs rules m n
-  changed-is before after all moved eb ea el em =
-      em ∙ (λ j. filter (λ r. is_some (parts_from rules (ea j) r (get n.orphans r) (get n.records r)) && not (same_option rules.same_parts (parts_from rules (eb j) r (get m.orphans r) (get m.records r)) (parts_from rules (ea j) r (get n.orphans r) (get n.records r)))) (el j))
 
   pub remarked-is : (moved all names : List Ref) (marks : Map ℕ) (documents : Map Data) (ticket : ℕ)
       → moved ≡ changed_refs rules m n → all ≡ known_refs n → names ≡ keys n.documents

@@ -1,12 +1,16 @@
 //! What follows from a change.
 ghost use Rattle.std.specs.Prelude.{◌≡◌, ◌≤◌, ◌^◌, IfOk};
+ghost use Rattle.cat_frame.specs.Linked.{AreLinked, AreRecorded, TouchesOnly};
 ghost use Rattle.cat_model.specs.Catalogue.{frame, reheld};
 
+use crate::emitted::relinked;
 use crate::marks::remarked_state;
 use crate::records::rerecorded_state;
 use cat_hold::hold::{reheld_holders, standing_rows};
 use cat_hold::layers::Layers;
+use cat_links::links::{LinkPlan, Links};
 use cat_model::types::{Leaving, State};
+use cat_ref::reference::Ref;
 use cat_types::table::Copied;
 use std::alloc::{AllocError, Global};
 
@@ -21,20 +25,28 @@ fn reheld_state(alloc: Global, n: &State) -> Result<State, AllocError>
     Ok(h)
 }
 
-/// The state `n`, which has an event's own change of `m`, with all that follows from it. Records that leave are deleted or
-/// become orphans, as `how` says.
+/// The state `n`, which has an event's own change of `m`, with all that follows from it, and its links. Records that leave
+/// are deleted or become orphans, as `how` says. The event is about the reference `own` at most.
 pub fn framed<L: Layers>(
     alloc: Global,
     layers: &L,
     how: Leaving,
+    own: &Option<Ref>,
     m: &State,
+    links: &Links,
     n: State,
-) -> Result<State, AllocError>
+) -> Result<(State, LinkPlan), AllocError>
     requires number { n.number ≤ 2 ^ 59 }
     requires ticket { n.ticket ≤ 2 ^ 59 }
-    ensures { IfOk result (λ x. x ≡ frame L.rules how m.now n) }
+    requires linked { AreLinked L.rules links.now m.now }
+    requires recorded { AreRecorded m.now }
+    requires touches { TouchesOnly own.now m.now n }
+    ensures state { IfOk result (λ x. x.0 ≡ frame L.rules how m.now n) }
+    ensures linked { IfOk result (λ x. AreLinked L.rules x.1.after x.0) }
 {
     let h = reheld_state(alloc, &n)?;
     let r = rerecorded_state(alloc, layers, how, m, &n, h)?;
-    remarked_state(alloc, layers, m, r)
+    let plan = relinked(alloc, layers, own, m, &r, links)?;
+    let state = remarked_state(alloc, layers, own, m, links, r, &plan)?;
+    Ok((state, plan))
 }

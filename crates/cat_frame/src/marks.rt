@@ -3,17 +3,20 @@ ghost use Rattle.std.specs.Prelude.{◌≡◌, ◌+◌, ◌<◌, ◌≤◌, ◌^
 ghost use Rattle.std.specs.List.{list_any};
 ghost use Rattle.cat_types.specs.Table.{find, get, keys, place, same_text, tabulate, text_cmp};
 ghost use Rattle.cat_hold.specs.Parts.{has_parts};
-ghost use Rattle.cat_frame.specs.Marks.{marked, with_parts};
-ghost use Rattle.cat_model.specs.Catalogue.{changed_refs, known_refs, parts_from, remarked, same_option};
+ghost use Rattle.cat_links.specs.Changes.{AreChanged};
+ghost use Rattle.cat_frame.specs.Linked.{AreLinked, AreRecorded, LeavesOthers, is_candidate, is_own, moved, same_sort};
+ghost use Rattle.cat_frame.specs.Marks.{marked, marked_with, with_parts};
+ghost use Rattle.cat_model.specs.Catalogue.{changed_refs, known_refs, remarked, same_option};
 
+use crate::parts::parts_of;
 use crate::records::{both_keys, count_of, place_of};
 use cat_hold::build::{Gives, Passes, filtered, tabulated};
 use cat_hold::layers::Layers;
-use cat_hold::parts::{Present, all_relations, has_parts, parts_of, same_option_parts};
+use cat_hold::parts::{Present, has_parts, same_option_parts};
+use cat_links::links::{LinkPlan, Links};
 use cat_model::types::State;
 use cat_ref::reference::Ref;
 use cat_types::node::Node;
-use cat_types::relation::Relation;
 use cat_types::table::{Copied, Key, Listing, Table};
 use std::alloc::{AllocError, Global};
 use std::cmp::Ordering;
@@ -27,50 +30,6 @@ pub fn all_refs(alloc: Global, m: &State) -> Result<Listing<Ref>, AllocError>
     sorted.keys(alloc)
 }
 
-#[derive(Drop)]
-struct IsChanged<'a, L> {
-    layers: &'a L,
-    m: &'a State,
-    before: &'a Listing<Relation>,
-    n: &'a State,
-    after: &'a Listing<Relation>,
-}
-
-impl<L: Layers> Passes<Ref> for IsChanged<'_, L> {
-    ghost passes = { λ s r. is_some (parts_from L.rules s.after.now r (get s.n.now.orphans r) (get s.n.now.records r))
-        && not (same_option L.rules.same_parts (parts_from L.rules s.before.now r (get s.m.now.orphans r) (get s.m.now.records r)) (parts_from L.rules s.after.now r (get s.n.now.orphans r) (get s.n.now.records r))) };
-
-    fn test(&self, alloc: Global, key: &Ref) -> Result<bool, AllocError> {
-        let now = parts_of(alloc, self.layers, self.n, self.after, key)?;
-        let then = parts_of(alloc, self.layers, self.m, self.before, key)?;
-        let same = same_option_parts(self.layers, &then, &now);
-        Ok(now.is_some() && !same)
-    }
-}
-
-// The references whose parts aren't those of `m`; each state's relations are made once.
-fn changed<L: Layers>(
-    alloc: Global,
-    layers: &L,
-    m: &State,
-    n: &State,
-) -> Result<Listing<Ref>, AllocError>
-    ensures { IfOk result (λ l. l ≡ changed_refs L.rules m.now n.now) }
-{
-    let before = all_relations(alloc, layers, m)?;
-    let after = all_relations(alloc, layers, n)?;
-    let all = all_refs(alloc, n)?;
-    let is_changed = IsChanged {
-        layers,
-        m,
-        before: &before,
-        n,
-        after: &after,
-    };
-    let moved = filtered(alloc, all.as_slice(), &is_changed)?;
-    Ok(moved)
-}
-
 fn is_among(refs: &[Ref], reference: &Ref) -> bool
     ensures { result ≡ list_any (same_text reference.now) refs.now }
 {
@@ -80,6 +39,109 @@ fn is_among(refs: &[Ref], reference: &Ref) -> bool
         }
     }
     false
+}
+
+fn is_own(own: &Option<Ref>, reference: &Ref) -> bool
+    ensures { result ≡ is_own own.now reference.now }
+{
+    match own {
+        None => false,
+        Some(own) => own.compare(reference) == Ordering::Equal,
+    }
+}
+
+// Whether what is known of a reference is of the same sort in both states.
+fn is_same_sort(m: &State, n: &State, reference: &Ref) -> bool
+    ensures { result ≡ same_sort m.now n.now reference.now }
+{
+    m.records.get(reference).is_some() == n.records.get(reference).is_some()
+        && m.orphans.get(reference).is_some() == n.orphans.get(reference).is_some()
+}
+
+// A change of a state and of its links.
+#[derive(Drop)]
+struct Change<'a> {
+    own: &'a Option<Ref>,
+    m: &'a State,
+    links: &'a Links,
+    n: &'a State,
+    plan: &'a LinkPlan,
+}
+
+// Whether the parts of a reference may differ.
+fn is_candidate(change: &Change<'_>, reference: &Ref) -> bool
+    ensures { result ≡ is_candidate change.now.plan.now.changed change.now.own.now change.now.m.now change.now.n.now reference.now }
+{
+    is_among(change.plan.changed(), reference)
+        || is_own(change.own, reference)
+        || !is_same_sort(change.m, change.n, reference)
+}
+
+// Whether a reference has parts after the change and they aren't those before it.
+fn has_moved<L: Layers>(
+    alloc: Global,
+    layers: &L,
+    change: &Change<'_>,
+    reference: &Ref,
+) -> Result<bool, AllocError>
+    ensures { IfOk result (λ b. b ≡ moved L.rules change.now.links.now change.now.m.now change.now.plan.now.after change.now.n.now reference.now) }
+{
+    let (m, n) = (change.m, change.n);
+    let now = parts_of(
+        alloc,
+        layers,
+        change.plan.after(),
+        reference,
+        n.orphans.get(reference),
+        n.records.get(reference),
+    )?;
+    let then = parts_of(
+        alloc,
+        layers,
+        change.links,
+        reference,
+        m.orphans.get(reference),
+        m.records.get(reference),
+    )?;
+    Ok(now.is_some() && !same_option_parts(layers, &then, &now))
+}
+
+#[derive(Drop)]
+struct IsChanged<'a, L> {
+    layers: &'a L,
+    change: &'a Change<'a>,
+}
+
+impl<L: Layers> Passes<Ref> for IsChanged<'_, L> {
+    ghost passes = { λ s r. is_candidate s.change.now.plan.now.changed s.change.now.own.now s.change.now.m.now s.change.now.n.now r
+        && moved L.rules s.change.now.links.now s.change.now.m.now s.change.now.plan.now.after s.change.now.n.now r };
+
+    fn test(&self, alloc: Global, key: &Ref) -> Result<bool, AllocError> {
+        if is_candidate(self.change, key) {
+            has_moved(alloc, self.layers, self.change, key)
+        } else {
+            Ok(false)
+        }
+    }
+}
+
+// The references whose parts the change changes: of the candidates, those whose parts differ.
+fn changed<L: Layers>(
+    alloc: Global,
+    layers: &L,
+    change: &Change<'_>,
+) -> Result<Listing<Ref>, AllocError>
+    requires before { AreLinked L.rules change.now.links.now change.now.m.now }
+    requires after { AreLinked L.rules change.now.plan.now.after change.now.n.now }
+    requires changed { AreChanged change.now.links.now change.now.plan.now.after change.now.plan.now.changed }
+    requires others { LeavesOthers change.now.own.now change.now.m.now change.now.n.now }
+    requires recorded { AreRecorded change.now.m.now × AreRecorded change.now.n.now }
+    ensures { IfOk result (λ l. l ≡ changed_refs L.rules change.now.m.now change.now.n.now) }
+{
+    let all = all_refs(alloc, change.n)?;
+    let is_changed = IsChanged { layers, change };
+    let moved = filtered(alloc, all.as_slice(), &is_changed)?;
+    Ok(moved)
 }
 
 #[derive(Drop)]
@@ -128,23 +190,17 @@ impl Gives<Ref, Node> for DocumentAfter<'_> {
     }
 }
 
-/// The state `n` with the marks, documents and tickets that follow from the change of the parts of `m` into those of `n`.
-pub fn remarked_state<L: Layers>(
-    alloc: Global,
-    layers: &L,
-    m: &State,
-    n: State,
-) -> Result<State, AllocError>
+// The state `n` in which these references drew tickets, and those without parts lost marks and documents.
+fn marked_state(alloc: Global, n: State, moved: &Listing<Ref>) -> Result<State, AllocError>
     requires { n.ticket ≤ 2 ^ 59 }
-    ensures { IfOk result (λ x. x ≡ remarked L.rules m.now n) }
+    ensures { IfOk result (λ x. x ≡ marked_with moved.now n) }
 {
-    let moved = changed(alloc, layers, m, &n)?;
     let all = all_refs(alloc, &n)?;
     let marks = {
         let after = MarkAfter {
             first: n.ticket,
             n: &n,
-            changed: &moved,
+            changed: moved,
         };
         tabulated(alloc, all.as_slice(), &after)?
     };
@@ -159,4 +215,36 @@ pub fn remarked_state<L: Layers>(
     n.documents = documents;
     n.ticket = ticket;
     Ok(n)
+}
+
+/// The state `n` with the marks, documents and tickets that follow from the change of the parts of `m` into those of `n`,
+/// where an event about `own` at most makes `n` of `m`, and the plan the links of `n` of those of `m`.
+pub fn remarked_state<L: Layers>(
+    alloc: Global,
+    layers: &L,
+    own: &Option<Ref>,
+    m: &State,
+    links: &Links,
+    n: State,
+    plan: &LinkPlan,
+) -> Result<State, AllocError>
+    requires small { n.ticket ≤ 2 ^ 59 }
+    requires before { AreLinked L.rules links.now m.now }
+    requires after { AreLinked L.rules plan.now.after n }
+    requires changed { AreChanged links.now plan.now.after plan.now.changed }
+    requires others { LeavesOthers own.now m.now n }
+    requires recorded { AreRecorded m.now × AreRecorded n }
+    ensures { IfOk result (λ x. x ≡ remarked L.rules m.now n) }
+{
+    let moved = {
+        let change = Change {
+            own,
+            m,
+            links,
+            n: &n,
+            plan,
+        };
+        changed(alloc, layers, &change)?
+    };
+    marked_state(alloc, n, &moved)
 }

@@ -1,15 +1,15 @@
 -- A row that holds its reference never claims again, so it may be left out.
-use Rattle.std.proofs.Common.{◌≡◌, ℕ, zero, suc, ◌+◌, ◌-◌, ◌<◌, arith, Bool, true, false, cond, not, ◌&&◌, is_some, List, [], ◌∷◌, ◌++◌, length, take, drop, refl, sym, ap, ◌∙◌, true≢false}
+use Rattle.std.proofs.Common.{◌≡◌, ℕ, zero, suc, ◌+◌, ◌-◌, ◌<◌, arith, Bool, true, false, cond, not, ◌&&◌, is_some, List, [], ◌∷◌, ◌++◌, length, take, drop, refl, sym, ap, ◌∙◌}
 use Rattle.std.specs.Prelude.{⊤}
 use Rattle.std.specs.declared.option.Option.{Option}
 use Rattle.std.specs.declared.option.Option.TheVariants.{None, Some}
 use Rattle.std.proofs.Math.ListN.{get_or}
 use Rattle.std.proofs.lemmas.List.{take-append-drop, drop_more}
 use Rattle.cat_model.specs.declared.types.Row.{Row}
-use Rattle.cat_types.specs.Table.{Text, find, first, get, put, same_text, text_cmp}
-use Rattle.cat_types.proofs.Tables.{text_total, text_antisymmetric, find-put_other, find-put_same, same_is, same_self}
+use Rattle.cat_types.specs.Table.{Text, find, first, put, same_text, text_cmp}
+use Rattle.cat_types.proofs.Tables.{text_total, text_antisymmetric, find-put_other, find-put_same, same_is}
 use Rattle.cat_model.specs.Catalogue.{Holders, Rows, claim, claims, held, hold, may_offer, row_at}
-use Rattle.cat_hold.specs.Claims.{IsNext, IsTaken}
+use Rattle.cat_hold.specs.Claims.{IsTaken}
 
 -- a row that is not there, or whose reference is held
 abbrev Dead : Holders → Option Row → Type 0

@@ -1,10 +1,12 @@
 //! Tables and lists that are made key by key.
-ghost use Rattle.std.specs.Prelude.{◌≡◌, IfOk};
+ghost use Rattle.std.specs.Prelude.{◌≡◌, true, IfOk};
 ghost use Rattle.std.specs.List.{filter};
+ghost use Rattle.std.specs.List.Sorted.{IsStrictlySortedBy};
 ghost use Rattle.cat_types.specs.Table.{first, tabulate};
 
 use cat_types::table::{Copied, Key, Listing, Table};
 use std::alloc::{AllocError, Global};
+use std::cmp::Ordering;
 
 /// A function from keys to values, for some keys none.
 pub trait Gives<K, X> {
@@ -28,8 +30,40 @@ pub trait Passes<K> {
         ensures { IfOk result (λ v. v ≡ passes self.now key.now) };
 }
 
-/// The table of the values that the function gives these keys, in order of the keys; a key without a value is left out.
-pub fn tabulated<K: Key + Copied + Drop, X: Drop, F: Gives<K, X>>(
+// Whether each key is below the next.
+fn rise<K: Key>(keys: &[K]) -> bool
+    ensures { result ≡ true → IsStrictlySortedBy K.order keys.now }
+{
+    let mut place = 1;
+    while place < keys.len() {
+        if keys[place - 1].compare(&keys[place]) != Ordering::Less {
+            return false;
+        }
+        place += 1;
+    }
+    true
+}
+
+// Keys that rise need no search for their places: each entry goes to the end.
+fn in_turn<K: Key + Copied + Drop, X: Drop, F: Gives<K, X>>(
+    alloc: Global,
+    keys: &[K],
+    f: &F,
+) -> Result<Table<K, X>, AllocError>
+    requires { IsStrictlySortedBy K.order keys.now }
+    ensures { IfOk result (λ t. t ≡ tabulate K.order keys.now (F.gives f.now)) }
+{
+    let mut made = Vec::new(alloc);
+    for key in keys {
+        if let Some(value) = f.give(alloc, key)? {
+            made.push((key.duplicate(alloc)?, value))?;
+        }
+    }
+    Ok(Table::from_vec(made))
+}
+
+// Keys in whatever order, the last one first, since of keys that tie the first counts.
+fn from_the_end<K: Key + Copied + Drop, X: Drop, F: Gives<K, X>>(
     alloc: Global,
     keys: &[K],
     f: &F,
@@ -49,6 +83,21 @@ pub fn tabulated<K: Key + Copied + Drop, X: Drop, F: Gives<K, X>>(
         }
     }
     Ok(made)
+}
+
+/// The table of the values that the function gives these keys, in order of the keys; a key without a value is left out.
+pub fn tabulated<K: Key + Copied + Drop, X: Drop, F: Gives<K, X>>(
+    alloc: Global,
+    keys: &[K],
+    f: &F,
+) -> Result<Table<K, X>, AllocError>
+    ensures { IfOk result (λ t. t ≡ tabulate K.order keys.now (F.gives f.now)) }
+{
+    if rise(keys) {
+        in_turn(alloc, keys, f)
+    } else {
+        from_the_end(alloc, keys, f)
+    }
 }
 
 /// The keys that pass, in their order.

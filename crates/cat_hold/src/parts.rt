@@ -3,12 +3,12 @@ ghost use Rattle.std.specs.Prelude.{◌≡◌, ◌++◌, IfOk, Option, Bool, opt
 ghost use Rattle.std.specs.declared.option.Option.TheVariants.{Some};
 ghost use Rattle.cat_types.specs.Table.{get, keys, same_text, text_cmp};
 ghost use Rattle.cat_hold.specs.Parts.{has_parts};
-ghost use Rattle.cat_model.specs.Catalogue.{emits, from_source, output_of, parts, parts_from, parts_of_orphan, parts_of_record, records_emit, same_option, work};
+ghost use Rattle.cat_model.specs.Catalogue.{emits, from_source, output_of, same_option, work};
 
 use crate::build::{Gives, Passes, filtered, tabulated};
 use crate::hold::row_of;
 use crate::layers::Layers;
-use cat_model::types::{Orphan, Record, State};
+use cat_model::types::{Record, State};
 use cat_ref::reference::Ref;
 use cat_types::parts::Parts;
 use cat_types::relation::Relation;
@@ -73,8 +73,8 @@ pub fn same_work_of<L: Layers>(
     Ok(same_option_work(layers, &left, &right))
 }
 
-// What the record of a reference emits.
-fn emitted_by<L: Layers>(
+/// What the record of a reference emits.
+pub fn emitted_by<L: Layers>(
     alloc: Global,
     layers: &L,
     records: &Table<Ref, Record>,
@@ -103,23 +103,6 @@ pub fn append<X: Copied + Drop>(
         list.push(item.duplicate(alloc)?)?;
     }
     Ok(())
-}
-
-/// The relations that the records of a state emit, in order of reference. They are made once a state.
-#[tactic(auto, using(crate::proofs::Lists::flat_keys_more))]
-pub fn all_relations<L: Layers>(
-    alloc: Global,
-    layers: &L,
-    m: &State,
-) -> Result<Listing<Relation>, AllocError>
-    ensures { IfOk result (λ l. l ≡ records_emit L.rules m.now) }
-{
-    let mut relations = Listing::new(alloc);
-    for (reference, _) in m.holders.as_slice() {
-        let more = emitted_by(alloc, layers, &m.records, reference)?;
-        append(alloc, &mut relations, more.as_slice())?;
-    }
-    Ok(relations)
 }
 
 /// Every key is there.
@@ -159,82 +142,6 @@ pub fn relations_from(
     let some = filtered(alloc, relations.as_slice(), &of_source)?;
     let sorted = tabulated(alloc, some.as_slice(), &Present)?;
     sorted.keys(alloc)
-}
-
-fn orphan_parts<L: Layers>(
-    alloc: Global,
-    layers: &L,
-    relations: &Listing<Relation>,
-    reference: &Ref,
-    orphan: Option<&Orphan>,
-) -> Result<Option<Parts>, AllocError>
-    ensures { IfOk result (λ p. p ≡ parts_of_orphan L.rules relations.now reference.now (option_map (λ x. x.now) orphan.entry)) }
-{
-    match orphan {
-        None => Ok(None),
-        Some(orphan) => {
-            let mut all = relations.duplicate(alloc)?;
-            let own = layers.relations(alloc, &orphan.entity, reference)?;
-            append(alloc, &mut all, own.as_slice())?;
-            let relations = relations_from(alloc, reference, &all)?;
-            let entity = orphan.entity.duplicate(alloc)?;
-            Ok(Some(Parts {
-                entity,
-                number: orphan.number,
-                orphan: true,
-                relations,
-                issues: Listing::new(alloc),
-            }))
-        }
-    }
-}
-
-fn record_parts(
-    alloc: Global,
-    relations: &Listing<Relation>,
-    reference: &Ref,
-    kept: &Record,
-) -> Result<Option<Parts>, AllocError>
-    ensures { IfOk result (λ p. p ≡ parts_of_record relations.now reference.now kept.now kept.now.output) }
-{
-    match &kept.output {
-        None => Ok(None),
-        Some(output) => {
-            let relations = relations_from(alloc, reference, relations)?;
-            let entity = output.entity.duplicate(alloc)?;
-            let issues = kept.issues.duplicate(alloc)?;
-            Ok(Some(Parts {
-                entity,
-                number: kept.number,
-                orphan: false,
-                relations,
-                issues,
-            }))
-        }
-    }
-}
-
-/// What the document of a reference is made of; none for a reference that is neither an orphan nor a record with an output.
-/// `relations` are those that the records of `m` emit.
-pub fn parts_of<L: Layers>(
-    alloc: Global,
-    layers: &L,
-    m: &State,
-    relations: &Listing<Relation>,
-    reference: &Ref,
-) -> Result<Option<Parts>, AllocError>
-    ensures { IfOk result (λ p. p ≡ parts_from L.rules relations.now reference.now (get m.now.orphans reference.now) (get m.now.records reference.now)) }
-{
-    match m.records.get(reference) {
-        None => orphan_parts(
-            alloc,
-            layers,
-            relations,
-            reference,
-            m.orphans.get(reference),
-        ),
-        Some(record) => record_parts(alloc, relations, reference, record),
-    }
 }
 
 /// Whether a reference is an orphan or a record with an output, so that it has parts.

@@ -26,7 +26,7 @@ first_of_any p (k ∷ ks) h = go (p k) h (first_of_any p ks)
     go false h ih = ih h
 
 -- no key of a map stands twice
-not_below : {X : Type 0} (r : Ref) (es : Map X) → T (below_all text_cmp r es) → list_any (same_text r) (keys es) ≡ false
+pub not_below : {X : Type 0} (r : Ref) (es : Map X) → T (below_all text_cmp r es) → list_any (same_text r) (keys es) ≡ false
 not_below r [] h = refl
 not_below r (e ∷ es) h = go (text_cmp r e.0) h (not_below r es)
   where

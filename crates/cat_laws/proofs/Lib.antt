@@ -18,3 +18,5 @@ pub mod Stands
 pub mod Unchanged
 pub mod Repeats
 pub mod Forms
+pub mod Ordered
+pub mod Alone

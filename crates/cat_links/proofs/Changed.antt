@@ -12,14 +12,14 @@ use Rattle.cat_types.specs.Table.{Text, find, keys, put, same_text, text_cmp}
 use Rattle.cat_types.specs.Relation.{relation_cmp}
 use Rattle.cat_types.specs.declared.relation.Relation.{Relation}
 use Rattle.cat_types.proofs.Tables.{text_total, text_antisymmetric, and_first, and_second, or_false_first, or_false_second, or_true, same_is, same_self}
-use Rattle.cat_links.specs.Order.{in_order}
+use Rattle.cat_types.specs.Order.{in_order}
 use Rattle.cat_links.specs.Links.{Emitted, all_emitted, differs, emitted_by, has, only_in, relations_of, same_relations, sources}
 use Rattle.cat_links.specs.Counts.{AreCounts, Counts}
 use Rattle.cat_links.specs.declared.links.EmitChange.{EmitChange}
 use Rattle.cat_links.specs.Changes.{AreChanged, touched, with_changes}
 use Rattle.cat_links.proofs.Counted.{keys_counts}
-use Rattle.cat_links.proofs.Orders.{has-filter, contains_from_has, has-in_order, has_from_contains, in_order-rises, in_order_is, same_in_order}
-use Rattle.cat_links.proofs.Relations.{relation_total, relation_antisymmetric}
+use Rattle.cat_types.proofs.Orders.{has-filter, contains_from_has, has-in_order, has_from_contains, in_order-rises, in_order_is, same_in_order}
+use Rattle.cat_types.specs.Relations.{relation_total, relation_antisymmetric}
 
 -- ---- filtering
 

@@ -13,13 +13,13 @@ use Rattle.cat_types.specs.declared.relation.Relation.{Relation}
 use Rattle.cat_types.specs.Relation.{relation_cmp}
 use Rattle.cat_types.specs.Table.{Text, find, keys, put, text_cmp}
 use Rattle.cat_types.proofs.Tables.{text_total, same_is, same_self}
-use Rattle.cat_links.specs.Order.{in_order}
+use Rattle.cat_types.specs.Order.{in_order}
 use Rattle.cat_links.specs.Links.{Emitted, all_emitted, emitted_by, has, only_in}
 use Rattle.cat_links.specs.Counts.{AreCounts, Counts, count_at, emitters_of, gained, lost, one_if, one_less, one_more}
-use Rattle.cat_links.specs.Rows.{without}
-use Rattle.cat_links.proofs.Orders.{has-filter, has-in_order, in_order-rises, in_order_is}
-use Rattle.cat_links.proofs.Placed.{from_T, rises, to_T}
-use Rattle.cat_links.proofs.Relations.{relation_total, relation_antisymmetric}
+use Rattle.cat_types.specs.Rows.{without}
+use Rattle.cat_types.proofs.Orders.{has-filter, has-in_order, in_order-rises, in_order_is}
+use Rattle.cat_types.proofs.Placed.{from_T, rises, to_T}
+use Rattle.cat_types.specs.Relations.{relation_total, relation_antisymmetric}
 
 abbrev same : Relation → Relation → Bool
 same = eq_by_cmp relation_cmp

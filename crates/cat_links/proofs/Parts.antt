@@ -9,8 +9,8 @@ use Rattle.cat_types.specs.Table.{Text, same_text, text_cmp}
 use Rattle.cat_types.specs.Relation.{kind_text, relation_cmp}
 use Rattle.cat_types.specs.declared.relation.Relation.{Relation}
 use Rattle.cat_types.proofs.Tables.{text_total, text_antisymmetric, same_is}
-use Rattle.cat_links.proofs.Placed.{later, same_or_below}
-use Rattle.cat_links.proofs.Relations.{relation_total, relation_antisymmetric}
+use Rattle.cat_types.proofs.Placed.{later, same_or_below}
+use Rattle.cat_types.specs.Relations.{relation_total, relation_antisymmetric}
 
 -- ---- what is filtered, said by places
 

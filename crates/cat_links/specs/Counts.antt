@@ -6,7 +6,7 @@ use Rattle.cat_types.specs.declared.relation.Relation.{Relation}
 use Rattle.cat_types.specs.Relation.{relation_cmp}
 use Rattle.cat_types.specs.Table.{find, put, text_cmp}
 use Rattle.cat_links.specs.Links.{Emitted, has}
-use Rattle.cat_links.specs.Rows.{without}
+use Rattle.cat_types.specs.Rows.{without}
 
 -- counts by relation, in order
 abbrev pub Counts : Type 0

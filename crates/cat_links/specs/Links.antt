@@ -5,7 +5,7 @@ use Rattle.std.specs.Ordering.{eq_by_cmp}
 use Rattle.cat_types.specs.declared.relation.Relation.{Relation}
 use Rattle.cat_types.specs.Relation.{relation_cmp}
 use Rattle.cat_types.specs.Table.{Text, Map, get, same_text}
-use Rattle.cat_links.specs.Order.{in_order}
+use Rattle.cat_types.specs.Order.{in_order}
 
 -- the relations that each emitter emits, in order of emitter
 abbrev pub Emitted : Type 0

@@ -5,7 +5,7 @@ ghost use Rattle.std.specs.List.{filter};
 ghost use Rattle.std.specs.Option.{option_copied};
 ghost use Rattle.cat_types.specs.Relation.{relation_cmp};
 ghost use Rattle.cat_types.specs.Table.{put, text_cmp};
-ghost use Rattle.cat_links.specs.Order.{in_order};
+ghost use Rattle.cat_types.specs.Order.{in_order};
 ghost use Rattle.cat_links.specs.Links as spec;
 
 use crate::counts::{gain, lose};
@@ -81,6 +81,17 @@ impl Linked<'_> {
             Some((relation, _)) => Some(relation.lend()),
             None => None,
         }
+    }
+
+    /// Copies of the relations, in order.
+    pub fn copies(&self, alloc: Global) -> Result<Listing<Relation>, AllocError>
+        ensures { IfOk result (λ list. list ≡ self.now) }
+    {
+        let mut list = Vec::new(alloc);
+        for (relation, _) in self.rows {
+            list.push(relation.lend().duplicate(alloc)?)?;
+        }
+        Ok(Listing::from_vec(list))
     }
 }
 

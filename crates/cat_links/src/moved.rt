@@ -3,7 +3,7 @@ ghost use Rattle.std.specs.Prelude.{◌≡◌, not, IfOk};
 ghost use Rattle.std.specs.List.{filter};
 ghost use Rattle.std.specs.List.Sorted.{IsStrictlySortedBy};
 ghost use Rattle.cat_types.specs.Relation.{relation_cmp};
-ghost use Rattle.cat_links.specs.Order.{in_order};
+ghost use Rattle.cat_types.specs.Order.{in_order};
 ghost use Rattle.cat_links.specs.Links.{has, only_in};
 
 use crate::order::in_order;

@@ -2,7 +2,7 @@
 ghost use Rattle.std.specs.Prelude.{◌≡◌};
 ghost use Rattle.std.specs.Cmp.{IsTotalOrder};
 ghost use Rattle.std.specs.FinMap.{IsAntisymmetric};
-ghost use Rattle.cat_links.specs.Order.{in_order};
+ghost use Rattle.cat_types.specs.Order.{in_order};
 
 use cat_types::table::Key;
 use std::cmp::Ordering;

@@ -6,7 +6,7 @@ ghost use Rattle.std.specs.FinMap.Entries.{is_sorted};
 ghost use Rattle.std.specs.Option.{option_copied};
 ghost use Rattle.std.specs.Ordering.{ordering_reverse};
 ghost use Rattle.cat_types.specs.Table.{find, put};
-ghost use Rattle.cat_links.specs.Rows.{IsAt, IsBetween, without};
+ghost use Rattle.cat_types.specs.Rows.{IsAt, IsBetween, without};
 
 use crate::shared::Shared;
 use cat_types::table::{Copied, Key};

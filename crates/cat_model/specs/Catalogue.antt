@@ -1,5 +1,5 @@
 -- The abstract catalogue.
-use Rattle.std.specs.Prelude.{◌≡◌, ℕ, zero, suc, ◌+◌, Bool, true, false, cond, not, ◌&&◌, List, [], ◌++◌, length, is_some, is_none}
+use Rattle.std.specs.Prelude.{◌≡◌, ℕ, zero, suc, ◌+◌, Bool, true, false, cond, not, ◌&&◌, List, [], ◌∷◌, ◌++◌, length, is_some, is_none}
 use Rattle.std.specs.declared.option.Option.{Option}
 use Rattle.std.specs.declared.option.Option.TheVariants.{None, Some}
 use Rattle.std.specs.Option.{option_and_then, option_map}
@@ -306,6 +306,11 @@ mark_after drawn (Some p) same mark = cond same mark (Some drawn)
 abbrev pub document_after : Option Parts → Tree → Option Tree
 document_after None document = None
 document_after (Some p) document = Some document
+
+-- references with tickets from this one on
+abbrev pub tickets : ℕ → List Ref → Map ℕ
+tickets t [] = []
+tickets t (r ∷ rs) = (r, t) ∷ tickets (t + 1) rs
 
 -- each reference without parts loses mark and document, and each whose parts changed gets a mark with a new ticket, in order of reference
 abbrev pub remarked : Rules → State → State → State

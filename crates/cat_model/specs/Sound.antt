@@ -85,6 +85,12 @@ pub record Sound (rules : Rules) (m : State) : Type 0 where
   pub rows_in_order : T (is_sorted nat_cmp m.rows)
   pub holders_in_order : T (is_sorted text_cmp m.holders)
 
+-- the tables of orphans, marks and documents are in order of reference
+pub record AreOrdered (m : State) : Type 0 where
+  pub orphans : T (is_sorted text_cmp m.orphans)
+  pub marks : T (is_sorted text_cmp m.marks)
+  pub documents : T (is_sorted text_cmp m.documents)
+
 -- the counters are at most 2 ^ 59, so what is drawn is below
 pub record AreSmall (m : State) : Type 0 where
   pub arrival : m.arrival ≤ 2 ^ 59

@@ -7,7 +7,7 @@ ghost use Rattle.cat_replies.specs.Shown as seen;
 
 use cat_model::types::{Row, State};
 use cat_ref::reference::Ref;
-use cat_types::table::{Key, Table};
+use cat_types::table::{Copied, Key, Table};
 use std::alloc::{AllocError, Global};
 use std::cmp::Ordering;
 
@@ -19,19 +19,23 @@ pub struct Conflict<'a> {
 }
 
 // A reference and an arrival.
-#[derive(Clone, Copy, Drop)]
-struct Place<'a> {
-    reference: &'a Ref,
+#[derive(Drop)]
+struct Place {
+    reference: Ref,
     arrival: u64,
 }
 
-impl Key for Place<'_> {
-    ghost use Rattle.cat_replies.specs.Places.{place_order};
+impl Key for Place {
+    ghost use Rattle.cat_replies.specs.Places.{place_apart, place_order, place_total};
 
     ghost order = { place_order };
 
+    ghost total = { place_total };
+
+    ghost apart = { place_apart };
+
     fn compare(&self, other: &Self) -> Ordering {
-        match self.reference.compare(other.reference) {
+        match self.reference.compare(&other.reference) {
             Ordering::Less => Ordering::Less,
             Ordering::Equal => self.arrival.compare(&other.arrival),
             Ordering::Greater => Ordering::Greater,
@@ -46,7 +50,7 @@ pub fn conflicts(alloc: Global, state: &State) -> Result<Vec<Conflict<'_>>, Allo
     let waiting = waiting(alloc, state)?;
     let mut found = Vec::new(alloc);
     for (place, row) in waiting.as_slice() {
-        push_conflict(&mut found, row, holding(state, place.reference))?;
+        push_conflict(&mut found, row, holding(state, &place.reference))?;
     }
     Ok(found)
 }
@@ -77,7 +81,7 @@ fn push_conflict<'a>(
 }
 
 // The rows that don't hold, by reference and arrival.
-fn waiting(alloc: Global, state: &State) -> Result<Table<Place<'_>, &Row>, AllocError>
+fn waiting(alloc: Global, state: &State) -> Result<Table<Place, &Row>, AllocError>
     ensures { IfOk result (λ t. map seen.waiting t ≡ spec.waiting state.now) }
 {
     let rows = state.rows.as_slice();
@@ -86,15 +90,22 @@ fn waiting(alloc: Global, state: &State) -> Result<Table<Place<'_>, &Row>, Alloc
     while place > 0 {
         place -= 1;
         let (arrival, row) = &rows[place];
-        put_waiting(&mut found, &row.reference, *arrival, waits(state, *arrival))?;
+        put_waiting(
+            alloc,
+            &mut found,
+            &row.reference,
+            *arrival,
+            waits(state, *arrival),
+        )?;
     }
     Ok(found)
 }
 
 // Puts the row at its place, where there is one.
 fn put_waiting<'a>(
-    found: &mut Table<Place<'a>, &'a Row>,
-    reference: &'a Ref,
+    alloc: Global,
+    found: &mut Table<Place, &'a Row>,
+    reference: &Ref,
     arrival: u64,
     row: Option<&'a Row>,
 ) -> Result<(), AllocError>
@@ -102,7 +113,10 @@ fn put_waiting<'a>(
         ≡ put_some spec.place_cmp (reference.now, arrival) (option_map (λ x. x.now) row.entry) (map seen.waiting found.old)) }
 {
     match row {
-        Some(row) => found.put(Place { reference, arrival }, row),
+        Some(row) => {
+            let reference = reference.duplicate(alloc)?;
+            found.put(Place { reference, arrival }, row)
+        }
         None => Ok(()),
     }
 }

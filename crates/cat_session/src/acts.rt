@@ -7,7 +7,7 @@ ghost use Rattle.cat_replies.specs.Events as say;
 ghost use Rattle.cat_session.specs.Carried.{CarriesEvent, CarriesSettle, IsRefusal, IsRefused, IsReplyTo, Stays, cut_line};
 
 use crate::room::Room;
-use cat_core::catalogue::Catalogue;
+use cat_core::catalogue::{Catalogue, Done, Stitched};
 use cat_core::fault::{CoreFault, Cut};
 use cat_hold::layers::Layers;
 use cat_model::types::{Acted, Fault, Finished, Order, Placed, StitchOrder};
@@ -162,8 +162,8 @@ pub(crate) fn finish<L: Layers>(
     ensures err { OnErr result (Stays catalogue.old catalogue.new) }
 {
     let room = Room::new(alloc)?;
-    let outcome = layers.result_of(alloc, &order.work)?;
-    let came = catalogue.finish(alloc, order, &outcome, now);
+    let done = Done::of(alloc, layers, order)?;
+    let came = catalogue.finish(alloc, &done, now);
     finished(alloc, room, came)
 }
 
@@ -178,8 +178,8 @@ pub(crate) fn place<L: Layers>(
     ensures err { OnErr result (Stays catalogue.old catalogue.new) }
 {
     let room = Room::new(alloc)?;
-    let document = layers.doc(alloc, &order.parts)?;
-    let came = catalogue.put_stitch(alloc, order, &document);
+    let stitched = Stitched::of(alloc, layers, order)?;
+    let came = catalogue.put_stitch(alloc, &stitched);
     placed(alloc, room, came)
 }
 

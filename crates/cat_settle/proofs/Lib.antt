@@ -1,4 +1,6 @@
 pub mod Parts
 pub mod Stays
+pub mod Called
+pub mod Sorted
 pub mod Moves
 pub mod Whole

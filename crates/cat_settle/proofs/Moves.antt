@@ -4,7 +4,7 @@ use Rattle.std.specs.declared.option.Option.{Option}
 use Rattle.std.specs.declared.option.Option.TheVariants.{None, Some}
 use Rattle.std.specs.List.{filter}
 use Rattle.cat_types.specs.Table.{get, keys}
-use Rattle.cat_types.proofs.Tables.{or_false_first, or_false_second, some_or_none}
+use Rattle.cat_types.proofs.Tables.{or_false_first, or_false_second}
 use Rattle.cat_model.specs.declared.types.Fault.{Fault}
 use Rattle.cat_model.specs.declared.types.Order.{Order}
 use Rattle.cat_model.specs.declared.types.Progress.{Progress}
@@ -12,15 +12,14 @@ use Rattle.cat_model.specs.declared.types.Record.{Record}
 use Rattle.cat_model.specs.declared.types.Settings.{Settings}
 use Rattle.cat_model.specs.declared.types.State.{State}
 use Rattle.cat_model.specs.declared.types.Stop.{Stop}
-use Rattle.cat_model.specs.declared.types.Stop.TheVariants.{Limit}
 use Rattle.cat_model.specs.declared.types.Leaving.TheVariants.{Orphaned}
 use Rattle.cat_model.specs.Catalogue.{Ref, Rules, frame}
-use Rattle.cat_model.specs.Settle.{after_refusal, begun_round, due_refs, is_due, is_empty, is_ended, is_full, order, try_event, try_finish, try_round, try_rounds, try_take_and_finish, try_turn, try_turns}
+use Rattle.cat_model.specs.Settle.{after_refusal, begun_round, due_refs, is_due, is_empty, is_ended, order, try_event, try_finish, try_round, try_rounds, try_take_and_finish, try_turn, try_turns}
 use Rattle.cat_model.specs.Step.{Event, change, finish, finished_state, is_present, refusal, take}
 use Rattle.cat_model.specs.Step.Event.{TakeAt, Finish}
-use Rattle.cat_settle.specs.Part.{CutRounds, EndRounds, Goes, HaveRounds, IsCut, IsDone}
-use Rattle.cat_settle.proofs.Parts.{Stays, cut_here, done_done, done_cut, nothing_done, same_cut, same_done}
-use Rattle.cat_settle.proofs.Stays.{round_stays, rounds_stays}
+use Rattle.cat_settle.specs.Part.{CutRounds, Goes, HaveRounds, IsCut, IsDone}
+use Rattle.cat_settle.proofs.Parts.{done_done, done_cut, nothing_done, same_cut, same_done}
+use Rattle.cat_settle.proofs.Stays.{round_stays}
 
 -- the settle stopped, or a token was drawn
 abbrev Moved : Progress → Progress → Type 0

@@ -1,5 +1,5 @@
 -- How parts of a settle join.
-use Rattle.std.proofs.Common.{◌≡◌, ℕ, ◌+◌, ◌-◌, ◌^◌, ◌<◌, ◌≤◌, Bool, true, false, cond, List, [], ◌∷◌, refl, sym, ap, subst, ◌∙◌, is_some, nat_le, le_refl, true≢false, arith}
+use Rattle.std.proofs.Common.{◌≡◌, ℕ, ◌-◌, ◌^◌, ◌<◌, ◌≤◌, Bool, true, false, cond, [], ◌∷◌, refl, sym, ap, subst, ◌∙◌, is_some, nat_le, le_refl, true≢false, arith}
 use Rattle.std.proofs.lemmas.Bool.Decides.{nat_tests}
 use Rattle.std.specs.declared.option.Option.{Option}
 use Rattle.std.specs.declared.option.Option.TheVariants.{None, Some}
@@ -11,14 +11,14 @@ use Rattle.cat_model.specs.declared.types.Settings.{Settings}
 use Rattle.cat_model.specs.declared.types.State.{State}
 use Rattle.cat_model.specs.declared.types.Stop.{Stop}
 use Rattle.cat_model.specs.declared.types.Stop.TheVariants.{Limit}
-use Rattle.cat_model.specs.Catalogue.{Ref, Rules}
+use Rattle.cat_model.specs.Catalogue.{Rules}
 use Rattle.cat_model.specs.Settle.{after_refusal, counted, is_full, try_event}
-use Rattle.cat_model.specs.Sound.{AreSmall, Sound}
+use Rattle.cat_model.specs.Sound.{Sound}
 use Rattle.cat_model.specs.Step.{Event, change, refusal, step}
-use Rattle.cat_laws.proofs.Steps.{run_kept, step_small}
+use Rattle.cat_laws.proofs.Steps.{run_kept}
 use Rattle.cat_events.specs.Stepped.{come_to, stepped}
 use Rattle.cat_events.specs.declared.stepped.Stepped.{Stepped}
-use Rattle.cat_settle.specs.Part.{Part, IsDone, IsCut, Came, Goes, Rests, moved}
+use Rattle.cat_settle.specs.Part.{Part, IsDone, IsCut, Came, Goes, moved}
 
 -- what has as many events as it may have gets none more
 pub record Stays (g : Option ℕ → Progress → Progress) : Type 0 where
@@ -164,9 +164,6 @@ module _ (rules : Rules) (s : Settings) (e : Event) (p : Progress) where
     unfolding step
     kept_in P h None is st = subst P (ap (λ v. cond (is_some v) p.state (change rules s e p.state)) is) st
     kept_in P h (Some x) is st = h
-
-    pub event_small : AreSmall p.state → AreSmall q.state
-    event_small h = subst (λ (x : Progress). AreSmall x.state) is_moved (kept_in AreSmall h (refusal rules s e p.state) refl (step_small rules s e p.state h))
 
     more : (v : Option Fault) (c : State) → (moved e (stepped v c) p).events < 2 ^ 64 - 1 → p.events ≤ (moved e (stepped v c) p).events
     more None c small = omega arith

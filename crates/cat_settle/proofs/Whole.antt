@@ -1,9 +1,8 @@
 -- The rounds that a settle runs are as many as the settle of the abstract catalogue has.
-use Rattle.std.proofs.Common.{◌≡◌, ℕ, zero, suc, ◌+◌, ◌-◌, ◌<◌, ◌≤◌, true, false, refl, sym, ap, subst, ◌∙◌, arith}
+use Rattle.std.proofs.Common.{◌≡◌, ℕ, zero, suc, ◌+◌, ◌-◌, ◌<◌, ◌≤◌, true, false, sym, ap, ◌∙◌, arith}
 use Rattle.std.specs.declared.option.Option.{Option}
 use Rattle.std.specs.declared.option.Option.TheVariants.{None, Some}
 use Rattle.std.specs.declared.result.Result.{Result}
-use Rattle.std.specs.declared.result.Result.TheVariants.{Ok, Err}
 use Rattle.cat_model.specs.declared.types.Progress.{Progress}
 use Rattle.cat_model.specs.declared.types.Settings.{Settings}
 use Rattle.cat_model.specs.declared.types.State.{State}
@@ -11,7 +10,7 @@ use Rattle.cat_model.specs.Catalogue.{Rules}
 use Rattle.cat_model.specs.Settle.{is_ended, not_begun, try_marks, try_round, try_rounds, try_settle, width}
 use Rattle.cat_model.specs.Sound.{Sound}
 use Rattle.cat_laws.proofs.Ended.{after_end, rounds_within}
-use Rattle.cat_settle.specs.Part.{Part, Came, CutRounds, EndRounds, Goes, IsCut, IsDone}
+use Rattle.cat_settle.specs.Part.{Came, CutRounds, EndRounds, Goes, IsCut, IsDone}
 use Rattle.cat_settle.proofs.Parts.{cut_then, done_then, same_cut}
 use Rattle.cat_settle.proofs.Stays.{marks_stays, rounds_stays}
 

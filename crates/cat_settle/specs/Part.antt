@@ -4,9 +4,9 @@ use Rattle.std.specs.declared.option.Option.{Option}
 use Rattle.std.specs.declared.option.Option.TheVariants.{None, Some}
 use Rattle.std.specs.declared.result.Result.{Result}
 use Rattle.std.specs.declared.result.Result.TheVariants.{Ok, Err}
+use Rattle.cat_model.specs.declared.types.Fault.{Fault}
 use Rattle.cat_model.specs.declared.types.Progress.{Progress}
 use Rattle.cat_model.specs.declared.types.Settings.{Settings}
-use Rattle.cat_model.specs.declared.types.State.{State}
 use Rattle.cat_model.specs.declared.types.Stop.TheVariants.{Refused as StopRefused}
 use Rattle.cat_model.specs.Catalogue.{Rules}
 use Rattle.cat_model.specs.Settle.{is_ended, stood, try_rounds}
@@ -19,6 +19,16 @@ use Rattle.cat_events.specs.declared.stepped.Stepped.TheVariants.{Refused, Acts}
 abbrev pub moved : Event → Stepped → Progress → Progress
 moved e (Acts n) p = stood e n p
 moved e (Refused fault) p = record p { stop = Some (StopRefused fault) }
+
+-- an event has made its state, and its refusal stops the settle, or else it is counted
+abbrev pub noted : Event → Option Fault → Progress → Progress
+noted e None p = stood e p.state p
+noted e (Some fault) p = record p { stop = Some (StopRefused fault) }
+
+-- what a call makes of a progress; where memory is wanted it changes nothing
+abbrev pub moved_in : {A E : Type 0} → Result A E → Event → Stepped → Progress → Progress
+moved_in (Ok x) e c p = moved e c p
+moved_in (Err x) e c p = p
 
 abbrev pub Part : Type 0
 Part = Option ℕ → Progress

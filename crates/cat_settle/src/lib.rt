@@ -1,7 +1,8 @@
 //! A settle: rounds of takes and finishes until no record is due, and then the stitches.
 //!
-//! It stands on cat_events. A settle goes from event to event over one progress, so that where memory runs out or an event
-//! is refused, exactly the events before stand: those of the abstract catalogue's settle that is limited to as many.
+//! It stands on cat_events. A settle goes from event to event over one progress, whose state and links each event changes in
+//! place, so that where memory runs out or an event is refused, exactly the events before stand: those of the abstract
+//! catalogue's settle that is limited to as many.
 #![tactic(auto)]
 
 pub mod order;

@@ -7,14 +7,15 @@ ghost use Rattle.cat_model.specs.declared.types.State.{State as StateValue};
 ghost use Rattle.cat_model.specs.Catalogue.{Rules, parts};
 ghost use Rattle.cat_model.specs.Settle.{counted, due_refs, is_due, mark_order, order, order_with, stitch_order};
 ghost use Rattle.cat_model.specs.Step.Event.{Finish, PutStitch, TakeAt};
-ghost use Rattle.cat_settle.specs.Part.{moved};
+ghost use Rattle.cat_frame.specs.Linked.{AreLinked, AreRecorded};
+ghost use Rattle.cat_settle.specs.Part.{noted};
 
-use cat_events::stepped::Stepped;
-use cat_events::stitch::present_parts;
+use cat_frame::parts::present_parts;
 use cat_hold::build::{Passes, filtered};
 use cat_hold::layers::Layers;
 use cat_hold::parts::work_of;
-use cat_model::types::{Lease, Order, Progress, Record, State, StitchOrder, Stop};
+use cat_links::links::Links;
+use cat_model::types::{Fault, Lease, Order, Progress, Record, State, StitchOrder, Stop};
 use cat_ref::reference::Ref;
 use cat_types::parts::Parts;
 use cat_types::table::{Copied, Listing};
@@ -31,44 +32,39 @@ pub fn counted(count: u64) -> u64
     if count < u64::MAX { count + 1 } else { count }
 }
 
-/// A take stands, or stops the settle.
-pub fn lease_moved(step: Stepped, p: &mut Progress)
-    ensures { (r : List ℕ) (now : ℕ) → p.new ≡ moved (TakeAt r now) step p.old }
+/// A take that came to this is counted, or stops the settle.
+pub fn lease_noted(came: Option<Fault>, p: &mut Progress)
+    ensures { (r : List ℕ) (now : ℕ) → p.new ≡ noted (TakeAt r now) came p.old }
 {
-    match step {
-        Stepped::Acts(state) => {
-            p.state = state;
+    match came {
+        None => {
             p.leases = counted(p.leases);
             p.events = counted(p.events);
         }
-        Stepped::Refused(fault) => p.stop = Some(Stop::Refused(fault)),
+        Some(fault) => p.stop = Some(Stop::Refused(fault)),
     }
 }
 
-/// A finish stands, or stops the settle.
-pub fn finish_moved(step: Stepped, p: &mut Progress)
-    ensures { (x : OrderValue) (now : ℕ) → p.new ≡ moved (Finish x now) step p.old }
+/// A finish that came to this is counted, or stops the settle.
+pub fn finish_noted(came: Option<Fault>, p: &mut Progress)
+    ensures { (x : OrderValue) (now : ℕ) → p.new ≡ noted (Finish x now) came p.old }
 {
-    match step {
-        Stepped::Acts(state) => {
-            p.state = state;
-            p.events = counted(p.events);
-        }
-        Stepped::Refused(fault) => p.stop = Some(Stop::Refused(fault)),
+    match came {
+        None => p.events = counted(p.events),
+        Some(fault) => p.stop = Some(Stop::Refused(fault)),
     }
 }
 
-/// A stitch stands, or stops the settle.
-pub fn stitch_moved(step: Stepped, p: &mut Progress)
-    ensures { (x : StitchOrderValue) → p.new ≡ moved (PutStitch x) step p.old }
+/// A stitch that came to this is counted, or stops the settle.
+pub fn stitch_noted(came: Option<Fault>, p: &mut Progress)
+    ensures { (x : StitchOrderValue) → p.new ≡ noted (PutStitch x) came p.old }
 {
-    match step {
-        Stepped::Acts(state) => {
-            p.state = state;
+    match came {
+        None => {
             p.stitched = counted(p.stitched);
             p.events = counted(p.events);
         }
-        Stepped::Refused(fault) => p.stop = Some(Stop::Refused(fault)),
+        Some(fault) => p.stop = Some(Stop::Refused(fault)),
     }
 }
 
@@ -136,10 +132,13 @@ pub fn stitch_order_of<L: Layers>(
     layers: &L,
     m: &State,
     reference: &Ref,
+    links: &Links,
 ) -> Result<Option<StitchOrder>, AllocError>
+    requires linked { AreLinked L.rules links.now m.now }
+    requires recorded { AreRecorded m.now }
     ensures { IfOk result (λ o. o ≡ mark_order L.rules m.now reference.now) }
 {
-    let parts = present_parts(alloc, layers, m, reference)?;
+    let parts = present_parts(alloc, layers, links, m, reference)?;
     let given = stitch_ordered(alloc, reference, m.marks.get(reference), parts)?;
     Ok(given)
 }

@@ -1,13 +1,14 @@
 //! Rounds of takes and finishes.
 ghost use Rattle.std.specs.Prelude.{◌≡◌, false, IfOk, IfErr, ℕ, Option, Bool};
 ghost use Rattle.cat_model.specs.Settle.{begun_round, due_refs, is_ended, try_round};
-ghost use Rattle.cat_model.specs.Sound.{AreSmall};
+ghost use Rattle.cat_events.specs.Coming.{IsSteady};
 ghost use Rattle.cat_events.specs.Stepped.{AreMoments};
 ghost use Rattle.cat_settle.specs.Part.{Came, CameRounds, Goes};
 
 use crate::order::{counted, refs_due};
 use crate::turn::all_turned;
 use cat_hold::layers::Layers;
+use cat_links::links::Links;
 use cat_model::types::{Progress, Settings};
 use cat_ref::reference::Ref;
 use cat_types::table::Listing;
@@ -21,17 +22,18 @@ fn one_round<L: Layers>(
     now: u64,
     refs: &Listing<Ref>,
     p: &mut Progress,
+    links: &mut Links,
 ) -> Result<(), AllocError>
-    requires small { AreSmall p.old.state }
+    requires steady { IsSteady L.rules links.old p.old.state }
     requires moments { AreMoments settings.now now }
     requires due { refs.now ≡ due_refs now p.old.state }
     requires going { is_ended now p.old ≡ false }
     ensures came { Came result (λ limit. try_round L.rules settings.now now limit p.old) p.new }
-    ensures small { AreSmall p.new.state }
+    ensures steady { IsSteady L.rules links.new p.new.state }
     ensures goes { Goes L.rules p.old p.new }
 {
     p.rounds = counted(p.rounds);
-    all_turned(alloc, layers, settings, now, refs.as_slice(), p)
+    all_turned(alloc, layers, settings, now, refs.as_slice(), p, links)
 }
 
 /// Rounds until for the first time no record is due or the settle is stopped.
@@ -41,11 +43,12 @@ pub fn all_rounds<L: Layers>(
     settings: &Settings,
     now: u64,
     p: &mut Progress,
+    links: &mut Links,
 ) -> Result<(), AllocError>
-    requires small { AreSmall p.old.state }
+    requires steady { IsSteady L.rules links.old p.old.state }
     requires moments { AreMoments settings.now now }
     ensures came { CameRounds L.rules settings.now now p.old result p.new }
-    ensures small { AreSmall p.new.state }
+    ensures steady { IsSteady L.rules links.new p.new.state }
     ensures goes { Goes L.rules p.old p.new }
 {
     'rounds: loop {
@@ -54,7 +57,7 @@ pub fn all_rounds<L: Layers>(
                 if p.stop.is_some() || refs.len() == 0 {
                     return Ok(());
                 }
-                match one_round(alloc, layers, settings, now, &refs, p) {
+                match one_round(alloc, layers, settings, now, &refs, p, links) {
                     Ok(()) => {}
                     Err(refused) => return Err(refused),
                 }

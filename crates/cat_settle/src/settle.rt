@@ -1,36 +1,38 @@
 //! A settle.
 ghost use Rattle.std.specs.Prelude.{◌≡◌, ◌≤◌, ℕ, Option};
 ghost use Rattle.cat_model.specs.Settle.{not_begun, try_settle};
-ghost use Rattle.cat_model.specs.Sound.{AreSmall, Sound};
+ghost use Rattle.cat_events.specs.Coming.{IsSteady};
 ghost use Rattle.cat_events.specs.Stepped.{AreMoments};
 ghost use Rattle.cat_settle.specs.Part.{Came, Goes};
 
 use crate::rounds::all_rounds;
 use crate::stitches::all_marks;
 use cat_hold::layers::Layers;
+use cat_links::links::Links;
 use cat_model::types::{Progress, Settings};
 use std::alloc::{AllocError, Global};
 
 /// Settles the state of a progress that is not begun: rounds until none is due, and then the stitches. Where it stops at a
-/// refusal, the progress says so; where memory runs out, exactly the events that the progress counts stand.
+/// refusal, the progress says so; where memory runs out, exactly the events that the progress counts stand. The links are
+/// those of the state, before and after.
 pub fn settled<L: Layers>(
     alloc: Global,
     layers: &L,
     settings: &Settings,
     now: u64,
     p: &mut Progress,
+    links: &mut Links,
 ) -> Result<(), AllocError>
-    requires small { AreSmall p.old.state }
+    requires steady { IsSteady L.rules links.old p.old.state }
     requires moments { AreMoments settings.now now }
     requires interval { 1 ≤ settings.now.interval }
-    requires sound { Sound L.rules p.old.state }
     requires begun { p.old ≡ not_begun p.old.state }
     ensures came { Came result (λ limit. try_settle L.rules settings.now now limit p.old.state) p.new }
-    ensures small { AreSmall p.new.state }
+    ensures steady { IsSteady L.rules links.new p.new.state }
     ensures goes { Goes L.rules p.old p.new }
 {
-    match all_rounds(alloc, layers, settings, now, p) {
-        Ok(()) => all_marks(alloc, layers, settings, p),
+    match all_rounds(alloc, layers, settings, now, p, links) {
+        Ok(()) => all_marks(alloc, layers, settings, p, links),
         Err(refused) => Err(refused),
     }
 }

@@ -1,45 +1,39 @@
 //! The stitches at the end of a settle, in order of ticket.
 ghost use Rattle.std.specs.Prelude.{◌≡◌, IfOk, IfErr, ℕ, List, Option};
 ghost use Rattle.cat_types.specs.Table.{get, keys};
-ghost use Rattle.cat_model.specs.Settle.{by_ticket, insert_mark, mark_order, marks_in_order, try_event, try_marks, try_stitch_with, try_stitches};
-ghost use Rattle.cat_model.specs.Sound.{AreSmall};
+ghost use Rattle.cat_model.specs.Settle.{by_ticket, mark_order, marks_in_order, try_event, try_marks, try_stitch_with, try_stitches};
 ghost use Rattle.cat_model.specs.Step.Event.{PutStitch};
+ghost use Rattle.cat_events.specs.Coming.{IsSteady};
 ghost use Rattle.cat_events.specs.Stepped.{come_to};
-ghost use Rattle.cat_settle.specs.Part.{Came, Goes};
+ghost use Rattle.cat_settle.specs.Part.{Came, Goes, moved_in};
 
-use crate::order::{MOST_EVENTS, stitch_moved, stitch_order_of};
-use cat_events::stepped::Stepped;
-use cat_events::stitch::stitch_step;
+use crate::order::{MOST_EVENTS, stitch_noted, stitch_order_of};
+use cat_events::done::Stitched;
+use cat_events::stitch::put_stitch;
 use cat_hold::layers::Layers;
-use cat_model::types::{Progress, Settings, State, StitchOrder};
+use cat_links::links::Links;
+use cat_model::types::{Progress, Settings, StitchOrder};
 use cat_ref::reference::Ref;
 use cat_types::table::{Copied, Listing, Table};
 use std::alloc::{AllocError, Global};
 
-// A marked reference in its place by ticket.
-fn put_mark(made: &mut Vec<(Ref, u64)>, reference: Ref, ticket: u64) -> Result<(), AllocError>
-    ensures { IfOk result (λ _. made.new.items ≡ insert_mark (reference, ticket) made.old.items) }
+// Copies of the marks.
+fn copied(alloc: Global, marks: &[(Ref, u64)]) -> Result<Vec<(Ref, u64)>, AllocError>
+    ensures { IfOk result (λ l. l.items ≡ marks.now) }
 {
-    let mut place = 0;
-    while place < made.len() && made[place].1 < ticket {
-        place += 1;
+    let mut made = Vec::new(alloc);
+    for (reference, ticket) in marks {
+        made.push((reference.duplicate(alloc)?, *ticket))?;
     }
-    made.insert(place, (reference, ticket))?;
-    Ok(())
+    Ok(made)
 }
 
 /// The marks in order of ticket.
 pub fn sorted_marks(alloc: Global, marks: &Table<Ref, u64>) -> Result<Vec<(Ref, u64)>, AllocError>
     ensures { IfOk result (λ l. l.items ≡ marks_in_order marks.now) }
 {
-    let entries = marks.as_slice();
-    let mut made = Vec::new(alloc);
-    let mut left = entries.len();
-    while left > 0 {
-        left -= 1;
-        let reference = entries[left].0.duplicate(alloc)?;
-        put_mark(&mut made, reference, entries[left].1)?;
-    }
+    let mut made = copied(alloc, marks.as_slice())?;
+    made.sort_by_key(|mark| mark.1)?;
     Ok(made)
 }
 
@@ -51,18 +45,29 @@ fn marked_refs(alloc: Global, marks: &Table<Ref, u64>) -> Result<Listing<Ref>, A
     sorted.keys(alloc)
 }
 
-// What the put of a stitch comes to, with the document of its parts.
-fn stitch_worked<L: Layers>(
+// The document of an order is stored, which is counted or stops the settle.
+fn stitched<L: Layers>(
     alloc: Global,
     layers: &L,
     settings: &Settings,
     order: &StitchOrder,
-    m: &State,
-) -> Result<Stepped, AllocError>
-    ensures { IfOk result (λ o. o ≡ come_to L.rules settings.now (PutStitch order.now) m.now) }
+    p: &mut Progress,
+    links: &Links,
+) -> Result<(), AllocError>
+    requires steady { IsSteady L.rules links.now p.old.state }
+    ensures moved { p.new ≡ moved_in result (PutStitch order.now) (come_to L.rules settings.now (PutStitch order.now) p.old.state) p.old }
+    ensures steady { IsSteady L.rules links.now p.new.state }
 {
-    let document = layers.doc(alloc, &order.parts)?;
-    stitch_step(alloc, layers, settings, order, &document, m)
+    match Stitched::of(alloc, layers, order) {
+        Ok(made) => match put_stitch(alloc, layers, settings, &made, &mut p.state, links) {
+            Ok(came) => {
+                stitch_noted(came, p);
+                Ok(())
+            }
+            Err(refused) => Err(refused),
+        },
+        Err(refused) => Err(refused),
+    }
 }
 
 fn stitch_tried<L: Layers>(
@@ -71,10 +76,11 @@ fn stitch_tried<L: Layers>(
     settings: &Settings,
     order: &StitchOrder,
     p: &mut Progress,
+    links: &Links,
 ) -> Result<(), AllocError>
-    requires small { AreSmall p.old.state }
+    requires steady { IsSteady L.rules links.now p.old.state }
     ensures came { Came result (λ limit. try_event L.rules settings.now limit (PutStitch order.now) p.old) p.new }
-    ensures small { AreSmall p.new.state }
+    ensures steady { IsSteady L.rules links.now p.new.state }
     ensures goes { Goes L.rules p.old p.new }
 {
     if p.stop.is_some() {
@@ -83,13 +89,7 @@ fn stitch_tried<L: Layers>(
     if p.events >= MOST_EVENTS {
         return Err(AllocError);
     }
-    match stitch_worked(alloc, layers, settings, order, &p.state) {
-        Ok(step) => {
-            stitch_moved(step, p);
-            Ok(())
-        }
-        Err(refused) => Err(refused),
-    }
+    stitched(alloc, layers, settings, order, p, links)
 }
 
 // An order is stitched, if there is one.
@@ -99,14 +99,15 @@ fn given_stitched<L: Layers>(
     settings: &Settings,
     given: Option<StitchOrder>,
     p: &mut Progress,
+    links: &Links,
 ) -> Result<(), AllocError>
-    requires small { AreSmall p.old.state }
+    requires steady { IsSteady L.rules links.now p.old.state }
     ensures came { Came result (λ limit. try_stitch_with L.rules settings.now limit given p.old) p.new }
-    ensures small { AreSmall p.new.state }
+    ensures steady { IsSteady L.rules links.now p.new.state }
     ensures goes { Goes L.rules p.old p.new }
 {
     match given {
-        Some(order) => stitch_tried(alloc, layers, settings, &order, p),
+        Some(order) => stitch_tried(alloc, layers, settings, &order, p, links),
         None => Ok(()),
     }
 }
@@ -118,14 +119,15 @@ fn mark_tried<L: Layers>(
     settings: &Settings,
     reference: &Ref,
     p: &mut Progress,
+    links: &Links,
 ) -> Result<(), AllocError>
-    requires small { AreSmall p.old.state }
+    requires steady { IsSteady L.rules links.now p.old.state }
     ensures came { Came result (λ limit. try_stitch_with L.rules settings.now limit (mark_order L.rules p.old.state reference.now) p.old) p.new }
-    ensures small { AreSmall p.new.state }
+    ensures steady { IsSteady L.rules links.now p.new.state }
     ensures goes { Goes L.rules p.old p.new }
 {
-    match stitch_order_of(alloc, layers, &p.state, reference) {
-        Ok(given) => given_stitched(alloc, layers, settings, given, p),
+    match stitch_order_of(alloc, layers, &p.state, reference, links) {
+        Ok(given) => given_stitched(alloc, layers, settings, given, p, links),
         Err(refused) => Err(refused),
     }
 }
@@ -136,14 +138,15 @@ fn all_stitched<L: Layers>(
     settings: &Settings,
     refs: &[Ref],
     p: &mut Progress,
+    links: &Links,
 ) -> Result<(), AllocError>
-    requires small { AreSmall p.old.state }
+    requires steady { IsSteady L.rules links.now p.old.state }
     ensures came { Came result (λ limit. try_stitches L.rules settings.now limit refs.now p.old) p.new }
-    ensures small { AreSmall p.new.state }
+    ensures steady { IsSteady L.rules links.now p.new.state }
     ensures goes { Goes L.rules p.old p.new }
 {
     for reference in refs {
-        match mark_tried(alloc, layers, settings, reference, p) {
+        match mark_tried(alloc, layers, settings, reference, p, links) {
             Ok(()) => {}
             Err(refused) => return Err(refused),
         }
@@ -157,14 +160,15 @@ pub fn all_marks<L: Layers>(
     layers: &L,
     settings: &Settings,
     p: &mut Progress,
+    links: &Links,
 ) -> Result<(), AllocError>
-    requires small { AreSmall p.old.state }
+    requires steady { IsSteady L.rules links.now p.old.state }
     ensures came { Came result (λ limit. try_marks L.rules settings.now limit p.old) p.new }
-    ensures small { AreSmall p.new.state }
+    ensures steady { IsSteady L.rules links.now p.new.state }
     ensures goes { Goes L.rules p.old p.new }
 {
     match marked_refs(alloc, &p.state.marks) {
-        Ok(refs) => all_stitched(alloc, layers, settings, refs.as_slice(), p),
+        Ok(refs) => all_stitched(alloc, layers, settings, refs.as_slice(), p, links),
         Err(refused) => Err(refused),
     }
 }

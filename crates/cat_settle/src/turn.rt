@@ -1,19 +1,41 @@
 //! A turn: a record that is due is taken, whatever lease it has, and finished.
 ghost use Rattle.std.specs.Prelude.{◌≡◌, IfOk, IfErr, ℕ, Option, Bool};
 ghost use Rattle.cat_types.specs.Table.{get, keys};
+ghost use Rattle.cat_links.specs.Links.{Emitted};
 ghost use Rattle.cat_model.specs.Settle.{is_due, order, try_event, try_finish, try_take_and_finish, try_turn, try_turns};
-ghost use Rattle.cat_model.specs.Sound.{AreSmall};
+ghost use Rattle.cat_model.specs.Sound.{AreSmall, Sound};
 ghost use Rattle.cat_model.specs.Step.Event.{Finish, TakeAt};
+ghost use Rattle.cat_events.specs.Coming.{IsSteady};
 ghost use Rattle.cat_events.specs.Stepped.{come_to, AreMoments};
-ghost use Rattle.cat_settle.specs.Part.{Came, Goes};
+ghost use Rattle.cat_settle.specs.Part.{Came, Goes, moved, moved_in};
 
-use crate::order::{MOST_EVENTS, due, finish_moved, lease_moved, order_of};
-use cat_events::lease::{finish_step, take_step};
-use cat_events::stepped::Stepped;
+use crate::order::{MOST_EVENTS, due, finish_noted, lease_noted, order_of};
+use cat_events::done::Done;
+use cat_events::finish::finish;
+use cat_events::lease::take_at;
 use cat_hold::layers::Layers;
-use cat_model::types::{Order, Progress, Settings, State};
+use cat_links::links::Links;
+use cat_model::types::{Order, Progress, Settings};
 use cat_ref::reference::Ref;
 use std::alloc::{AllocError, Global};
+
+// A record is taken, which is counted or stops the settle. The links are as before.
+fn taken<L: Layers>(
+    alloc: Global,
+    layers: &L,
+    settings: &Settings,
+    now: u64,
+    reference: &Ref,
+    p: &mut Progress,
+)
+    requires sound { Sound L.rules p.old.state }
+    requires small { AreSmall p.old.state }
+    requires moments { AreMoments settings.now now }
+    ensures { p.new ≡ moved (TakeAt reference.now now) (come_to L.rules settings.now (TakeAt reference.now now) p.old.state) p.old }
+{
+    let came = take_at(alloc, layers, settings, reference, now, &mut p.state);
+    lease_noted(came, p);
+}
 
 fn take_tried<L: Layers>(
     alloc: Global,
@@ -23,10 +45,11 @@ fn take_tried<L: Layers>(
     reference: &Ref,
     p: &mut Progress,
 ) -> Result<(), AllocError>
+    requires sound { Sound L.rules p.old.state }
     requires small { AreSmall p.old.state }
     requires moments { AreMoments settings.now now }
     ensures came { Came result (λ limit. try_event L.rules settings.now limit (TakeAt reference.now now) p.old) p.new }
-    ensures small { AreSmall p.new.state }
+    ensures steady { (links : Emitted) → IsSteady L.rules links p.old.state → IsSteady L.rules links p.new.state }
     ensures goes { Goes L.rules p.old p.new }
 {
     if p.stop.is_some() {
@@ -35,30 +58,35 @@ fn take_tried<L: Layers>(
     if p.events >= MOST_EVENTS {
         return Err(AllocError);
     }
-    match take_step(alloc, layers, settings, reference, now, &p.state) {
-        Ok(step) => {
-            lease_moved(step, p);
-            Ok(())
-        }
-        Err(refused) => Err(refused),
-    }
+    taken(alloc, layers, settings, now, reference, p);
+    Ok(())
 }
 
-// What the finish of an order comes to, with the result of its work.
-fn worked<L: Layers>(
+// The result of an order's work is taken in, which is counted or stops the settle.
+fn finished<L: Layers>(
     alloc: Global,
     layers: &L,
     settings: &Settings,
     now: u64,
     order: &Order,
-    m: &State,
-) -> Result<Stepped, AllocError>
-    requires small { AreSmall m.now }
+    p: &mut Progress,
+    links: &mut Links,
+) -> Result<(), AllocError>
+    requires steady { IsSteady L.rules links.old p.old.state }
     requires moments { AreMoments settings.now now }
-    ensures { IfOk result (λ o. o ≡ come_to L.rules settings.now (Finish order.now now) m.now) }
+    ensures moved { p.new ≡ moved_in result (Finish order.now now) (come_to L.rules settings.now (Finish order.now now) p.old.state) p.old }
+    ensures steady { IsSteady L.rules links.new p.new.state }
 {
-    let outcome = layers.result_of(alloc, &order.work)?;
-    finish_step(alloc, layers, settings, order, &outcome, now, m)
+    match Done::of(alloc, layers, order) {
+        Ok(done) => match finish(alloc, layers, settings, &done, now, &mut p.state, links) {
+            Ok(came) => {
+                finish_noted(came, p);
+                Ok(())
+            }
+            Err(refused) => Err(refused),
+        },
+        Err(refused) => Err(refused),
+    }
 }
 
 fn finish_tried<L: Layers>(
@@ -68,11 +96,12 @@ fn finish_tried<L: Layers>(
     now: u64,
     order: &Order,
     p: &mut Progress,
+    links: &mut Links,
 ) -> Result<(), AllocError>
-    requires small { AreSmall p.old.state }
+    requires steady { IsSteady L.rules links.old p.old.state }
     requires moments { AreMoments settings.now now }
     ensures came { Came result (λ limit. try_event L.rules settings.now limit (Finish order.now now) p.old) p.new }
-    ensures small { AreSmall p.new.state }
+    ensures steady { IsSteady L.rules links.new p.new.state }
     ensures goes { Goes L.rules p.old p.new }
 {
     if p.stop.is_some() {
@@ -81,13 +110,7 @@ fn finish_tried<L: Layers>(
     if p.events >= MOST_EVENTS {
         return Err(AllocError);
     }
-    match worked(alloc, layers, settings, now, order, &p.state) {
-        Ok(step) => {
-            finish_moved(step, p);
-            Ok(())
-        }
-        Err(refused) => Err(refused),
-    }
+    finished(alloc, layers, settings, now, order, p, links)
 }
 
 // An order is finished, if there is one.
@@ -98,15 +121,16 @@ fn given_tried<L: Layers>(
     now: u64,
     given: Option<Order>,
     p: &mut Progress,
+    links: &mut Links,
 ) -> Result<(), AllocError>
-    requires small { AreSmall p.old.state }
+    requires steady { IsSteady L.rules links.old p.old.state }
     requires moments { AreMoments settings.now now }
     ensures came { Came result (λ limit. try_finish L.rules settings.now now limit given p.old) p.new }
-    ensures small { AreSmall p.new.state }
+    ensures steady { IsSteady L.rules links.new p.new.state }
     ensures goes { Goes L.rules p.old p.new }
 {
     match given {
-        Some(order) => finish_tried(alloc, layers, settings, now, &order, p),
+        Some(order) => finish_tried(alloc, layers, settings, now, &order, p, links),
         None => Ok(()),
     }
 }
@@ -119,15 +143,16 @@ fn order_tried<L: Layers>(
     now: u64,
     reference: &Ref,
     p: &mut Progress,
+    links: &mut Links,
 ) -> Result<(), AllocError>
-    requires small { AreSmall p.old.state }
+    requires steady { IsSteady L.rules links.old p.old.state }
     requires moments { AreMoments settings.now now }
     ensures came { Came result (λ limit. try_finish L.rules settings.now now limit (order L.rules p.old.state reference.now) p.old) p.new }
-    ensures small { AreSmall p.new.state }
+    ensures steady { IsSteady L.rules links.new p.new.state }
     ensures goes { Goes L.rules p.old p.new }
 {
     match order_of(alloc, layers, &p.state, reference) {
-        Ok(given) => given_tried(alloc, layers, settings, now, given, p),
+        Ok(given) => given_tried(alloc, layers, settings, now, given, p, links),
         Err(refused) => Err(refused),
     }
 }
@@ -139,15 +164,16 @@ fn taken_and_finished<L: Layers>(
     now: u64,
     reference: &Ref,
     p: &mut Progress,
+    links: &mut Links,
 ) -> Result<(), AllocError>
-    requires small { AreSmall p.old.state }
+    requires steady { IsSteady L.rules links.old p.old.state }
     requires moments { AreMoments settings.now now }
     ensures came { Came result (λ limit. try_take_and_finish L.rules settings.now now limit reference.now p.old) p.new }
-    ensures small { AreSmall p.new.state }
+    ensures steady { IsSteady L.rules links.new p.new.state }
     ensures goes { Goes L.rules p.old p.new }
 {
     match take_tried(alloc, layers, settings, now, reference, p) {
-        Ok(()) => order_tried(alloc, layers, settings, now, reference, p),
+        Ok(()) => order_tried(alloc, layers, settings, now, reference, p, links),
         Err(refused) => Err(refused),
     }
 }
@@ -159,15 +185,16 @@ fn turned<L: Layers>(
     now: u64,
     reference: &Ref,
     p: &mut Progress,
+    links: &mut Links,
 ) -> Result<(), AllocError>
-    requires small { AreSmall p.old.state }
+    requires steady { IsSteady L.rules links.old p.old.state }
     requires moments { AreMoments settings.now now }
     ensures came { Came result (λ limit. try_turn L.rules settings.now now limit reference.now p.old) p.new }
-    ensures small { AreSmall p.new.state }
+    ensures steady { IsSteady L.rules links.new p.new.state }
     ensures goes { Goes L.rules p.old p.new }
 {
     if due(now, p.state.records.get(reference)) {
-        taken_and_finished(alloc, layers, settings, now, reference, p)
+        taken_and_finished(alloc, layers, settings, now, reference, p, links)
     } else {
         Ok(())
     }
@@ -181,15 +208,16 @@ pub fn all_turned<L: Layers>(
     now: u64,
     refs: &[Ref],
     p: &mut Progress,
+    links: &mut Links,
 ) -> Result<(), AllocError>
-    requires small { AreSmall p.old.state }
+    requires steady { IsSteady L.rules links.old p.old.state }
     requires moments { AreMoments settings.now now }
     ensures came { Came result (λ limit. try_turns L.rules settings.now now limit refs.now p.old) p.new }
-    ensures small { AreSmall p.new.state }
+    ensures steady { IsSteady L.rules links.new p.new.state }
     ensures goes { Goes L.rules p.old p.new }
 {
     for reference in refs {
-        match turned(alloc, layers, settings, now, reference, p) {
+        match turned(alloc, layers, settings, now, reference, p, links) {
             Ok(()) => {}
             Err(refused) => return Err(refused),
         }

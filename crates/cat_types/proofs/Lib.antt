@@ -1,2 +1,5 @@
 pub mod Puts
 pub mod Tables
+pub mod Orders
+pub mod Placed
+pub mod Rising

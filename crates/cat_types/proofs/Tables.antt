@@ -6,16 +6,10 @@ use Rattle.std.specs.Option.{option_and_then}
 use Rattle.std.specs.Ordering.{eq_by_cmp, is_eq}
 use Rattle.std.specs.List.{list_any, filter}
 use Rattle.std.specs.Cmp.{IsTotalOrder, Equal-is, tied_itself}
-use Rattle.std.specs.Cmp.Lexicographic.{nat_list_cmp_total}
-use Rattle.std.specs.FinMap.{IsAntisymmetric, nat_cmp-IsAntisymmetric, slice_cmp-IsAntisymmetric}
+use Rattle.std.specs.FinMap.{IsAntisymmetric}
 use Rattle.std.specs.FinMap.Entries.{find-put, is_some-find, is_sorted, is_sorted-put, same_entries}
-use Rattle.cat_types.specs.Table.{text_cmp, keys, find, put, put_some, tabulate, over, first, place}
-
-pub text_total : IsTotalOrder text_cmp
-text_total = nat_list_cmp_total
-
-pub text_antisymmetric : IsAntisymmetric text_cmp
-text_antisymmetric = slice_cmp-IsAntisymmetric nat_cmp-IsAntisymmetric
+use Rattle.cat_types.specs.Table.{keys, find, put, put_some, tabulate, over, first, place}
+pub use Rattle.cat_types.specs.Table.{text_total, text_antisymmetric}
 
 pub none_or_some : {A : Type 0} (x : Option A) → is_some x ≡ false → x ≡ None
 none_or_some None e = refl

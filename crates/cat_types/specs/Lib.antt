@@ -1,2 +1,5 @@
 pub mod Table
+pub mod Order
+pub mod Rows
 pub mod Relation
+pub mod Relations

@@ -1,11 +1,14 @@
 -- Finite maps as lists of entries, with std's `find` and `put`. What is said of a map is said of what `find` gives.
-use Rattle.std.specs.Prelude.{ℕ, suc, Bool, cond, List, [], ◌∷◌, map}
+use Rattle.std.specs.Prelude.{ℕ, suc, Bool, true, false, cond, T, List, [], ◌∷◌, map}
 use Rattle.std.specs.declared.cmp.Ordering.{Ordering}
 use Rattle.std.specs.declared.option.Option.{Option}
 use Rattle.std.specs.declared.option.Option.TheVariants.{None, Some}
 use Rattle.std.specs.Option.{option_and_then}
 use Rattle.std.specs.Ordering.{eq_by_cmp, nat_cmp}
-use Rattle.std.specs.Cmp.Lexicographic.{slice_cmp}
+use Rattle.std.specs.Cmp.{IsTotalOrder}
+use Rattle.std.specs.Cmp.Lexicographic.{slice_cmp, nat_list_cmp_total}
+use Rattle.std.specs.FinMap.{IsAntisymmetric, nat_cmp-IsAntisymmetric, slice_cmp-IsAntisymmetric}
+use Rattle.std.specs.FinMap.Entries.{is_sorted}
 pub use Rattle.std.specs.FinMap.Entries.{find, put}
 
 -- a text is the list of its bytes
@@ -15,6 +18,12 @@ Text = List ℕ
 -- texts are ordered by their bytes
 abbrev pub text_cmp : Text → Text → Ordering
 text_cmp = slice_cmp nat_cmp
+
+pub text_total : IsTotalOrder text_cmp
+text_total = nat_list_cmp_total
+
+pub text_antisymmetric : IsAntisymmetric text_cmp
+text_antisymmetric = slice_cmp-IsAntisymmetric nat_cmp-IsAntisymmetric
 
 -- whether two texts are one
 abbrev pub same_text : Text → Text → Bool
@@ -55,3 +64,13 @@ first p (k ∷ ks) = cond (p k) (Some k) (first p ks)
 abbrev pub place : {K : Type 0} → (K → K → Ordering) → K → List K → ℕ
 place R k [] = 0
 place R k (x ∷ xs) = cond (eq_by_cmp R k x) 0 (suc (place R k xs))
+
+-- the map with these entries put in, one after the other
+abbrev pub puts : {K X : Type 0} → (K → K → Ordering) → List (K × X) → List (K × X) → List (K × X)
+puts R [] m = m
+puts R (e ∷ es) m = puts R es (put R e.0 e.1 m)
+
+-- where it is said that the keys rise, they do
+abbrev pub RiseWhere : {K X : Type 0} → (K → K → Ordering) → Bool → List (K × X) → Type 0
+RiseWhere R true m = T (is_sorted R m)
+RiseWhere R false m = Unit {0}

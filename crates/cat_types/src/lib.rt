@@ -14,6 +14,7 @@ pub mod node;
 pub mod order;
 pub mod parts;
 pub mod relation;
+mod rows;
 pub mod table;
 #[cfg(test)]
 mod tests;

@@ -2,6 +2,7 @@
 ghost use Rattle.std.specs.Prelude.{◌≡◌};
 ghost use Rattle.std.specs.Ordering.{ordering_then};
 ghost use Rattle.cat_types.specs.Relation.{kind_text, relation_cmp};
+ghost use Rattle.cat_types.specs.Relations.{relation_antisymmetric, relation_total};
 ghost use Rattle.cat_types.specs.Table.{text_cmp};
 
 use crate::relation::{RelKind, Relation};
@@ -16,6 +17,10 @@ fn compare_kinds(left: RelKind, right: RelKind) -> Ordering
 
 impl Key for Relation {
     ghost order = { relation_cmp };
+
+    ghost total = { relation_total };
+
+    ghost apart = { relation_antisymmetric };
 
     fn compare(&self, other: &Relation) -> Ordering {
         match self.source.compare(&other.source) {

@@ -1,8 +1,13 @@
 //! Lists and tables: what contracts see as items, and as entries by key in order of the keys.
-ghost use Rattle.std.specs.Prelude.{◌≡◌, ◌<◌, ◌++◌, ◌∷◌, [], length, option_map, is_ok, if◌then◌else◌, IfOk, slice_index_or};
+ghost use Rattle.std.specs.Prelude.{◌≡◌, ◌<◌, ◌++◌, ◌∷◌, [], length, option_map, is_ok, is_some, if◌then◌else◌, IfOk, IsTrue};
+ghost use Rattle.std.specs.Cmp.{IsTotalOrder, nat_cmp_total};
+ghost use Rattle.std.specs.FinMap.{IsAntisymmetric, nat_cmp-IsAntisymmetric};
+ghost use Rattle.std.specs.FinMap.Entries.{is_sorted};
 ghost use Rattle.std.specs.Ordering.{nat_cmp};
-ghost use Rattle.cat_types.specs.Table.{find, keys, put, text_cmp};
+ghost use Rattle.cat_types.specs.Rows.{without};
+ghost use Rattle.cat_types.specs.Table.{find, keys, put, puts, text_antisymmetric, text_cmp, text_total};
 
+use crate::rows;
 use cat_ref::reference::Ref;
 use cat_tree::text::Text;
 use std::alloc::{AllocError, Global};
@@ -18,10 +23,19 @@ pub trait Key {
     /// How this key stands to another.
     fn compare(&self, other: &Self) -> Ordering
         ensures { result ≡ order self.now other.now };
+
+    // It is a total order, and only equal keys tie.
+    ghost total: { IsTotalOrder order };
+
+    ghost apart: { IsAntisymmetric order };
 }
 
 impl Key for Text {
     ghost order = { text_cmp };
+
+    ghost total = { text_total };
+
+    ghost apart = { text_antisymmetric };
 
     fn compare(&self, other: &Text) -> Ordering {
         self.as_str().cmp(other.as_str())
@@ -31,6 +45,10 @@ impl Key for Text {
 impl Key for Ref {
     ghost order = { text_cmp };
 
+    ghost total = { text_total };
+
+    ghost apart = { text_antisymmetric };
+
     fn compare(&self, other: &Ref) -> Ordering {
         self.as_str().cmp(other.as_str())
     }
@@ -38,6 +56,10 @@ impl Key for Ref {
 
 impl Key for u64 {
     ghost order = { nat_cmp };
+
+    ghost total = { nat_cmp_total };
+
+    ghost apart = { nat_cmp-IsAntisymmetric };
 
     fn compare(&self, other: &u64) -> Ordering {
         self.cmp(other)
@@ -152,30 +174,27 @@ impl<X: Copied + Drop> Copied for Listing<X> {
     }
 }
 
-/// Entries by key. Contracts see the list of keys with values; what is put goes in order of the keys, each once.
+/// Entries by key. Contracts see the list of keys with values; what is put goes in order of the keys, each once. Where the
+/// entries are in order, which the table knows, a key is found by halving.
 #[derive(Drop)]
-pub struct Table<K, X> {
+pub struct Table<K: Key, X> {
     items: Vec<(K, X)>,
+    // whether the keys are known to rise
+    rising: bool,
 }
 
-impl<K, X> Model for Table<K, X> {
+impl<K: Key, X> Model for Table<K, X> {
     ghost use Rattle.std.specs.Prelude.{List};
+    ghost use Rattle.cat_types.specs.Table.{RiseWhere};
 
     ghost Value = { List (K × X) };
 
     ghost view = { λ a. a.items.items };
+
+    ghost invariant = { λ a. RiseWhere K.order a.rising a.items.items };
 }
 
-impl<K, X> Table<K, X> {
-    /// The entries of a vector, in whatever order they stand.
-    pub fn from_vec(items: Vec<(K, X)>) -> Table<K, X>
-        ensures { result ≡ items.items }
-    {
-        Table { items }
-    }
-}
-
-impl<K: Copied + Drop, X: Copied + Drop> Copied for Table<K, X> {
+impl<K: Key + Copied + Drop, X: Copied + Drop> Copied for Table<K, X> {
     fn duplicate(&self, alloc: Global) -> Result<Table<K, X>, AllocError> {
         let mut items = Vec::new(alloc);
         for (key, value) in &self.items {
@@ -183,7 +202,10 @@ impl<K: Copied + Drop, X: Copied + Drop> Copied for Table<K, X> {
             let value = value.duplicate(alloc)?;
             items.push((key, value))?;
         }
-        Ok(Table { items })
+        Ok(Table {
+            items,
+            rising: self.rising,
+        })
     }
 }
 
@@ -194,7 +216,16 @@ impl<K: Key, X> Table<K, X> {
     {
         Table {
             items: Vec::new(alloc),
+            rising: true,
         }
+    }
+
+    /// The entries of a vector, in whatever order they stand.
+    pub fn from_vec(items: Vec<(K, X)>) -> Table<K, X>
+        ensures { result ≡ items.items }
+    {
+        let rising = rows::rise(items.as_slice());
+        Table { items, rising }
     }
 
     /// How many entries there are.
@@ -228,12 +259,11 @@ impl<K: Key, X> Table<K, X> {
     pub fn get(&self, key: &K) -> Option<&X>
         ensures { option_map (λ x. x.now) result ≡ find K.order key.now self.now }
     {
-        for (other, value) in &self.items {
-            if key.compare(other) == Ordering::Equal {
-                return Some(value);
-            }
+        if self.rising {
+            rows::get(self.items.as_slice(), key)
+        } else {
+            rows::first_at(self.items.as_slice(), key)
         }
-        None
     }
 
     /// Puts the value at its key's place: before the first greater key, or in place of the value of its key. Where memory is
@@ -244,18 +274,38 @@ impl<K: Key, X> Table<K, X> {
         X: Drop,
         ensures { self.new ≡ (if is_ok result then put K.order key value self.old else self.old) }
     {
-        let mut place = 0;
-        while place < self.items.len() {
-            match key.compare(&self.items[place].0) {
-                Ordering::Greater => place += 1,
-                Ordering::Equal => {
-                    self.items[place].1 = value;
-                    return Ok(());
-                }
-                Ordering::Less => break,
-            }
+        if self.rising {
+            rows::put(&mut self.items, key, value)
+        } else {
+            rows::put_in_turn(&mut self.items, key, value)
         }
-        self.items.insert(place, (key, value))?;
-        Ok(())
+    }
+}
+
+impl<K: Key + Drop, X: Drop> Table<K, X> {
+    /// Puts the value in place of the one at its key, and answers that one. Where the key is absent the table is as before.
+    /// Takes no memory.
+    pub fn replace(&mut self, key: &K, value: X) -> Option<X>
+        requires { IsTrue (is_sorted K.order self.old) }
+        ensures value { result ≡ find K.order key.now self.old }
+        ensures table { self.new ≡ (if is_some (find K.order key.now self.old) then put K.order key.now value self.old else self.old) }
+    {
+        rows::replace(&mut self.items, key, value)
+    }
+
+    /// Puts these entries, one after the other; where memory is wanted, none of them.
+    pub fn put_all(&mut self, entries: Vec<(K, X)>) -> Result<(), AllocError>
+        requires { IsTrue (is_sorted K.order self.old) }
+        ensures { self.new ≡ (if is_ok result then puts K.order entries.items self.old else self.old) }
+    {
+        rows::put_all(&mut self.items, entries)
+    }
+
+    /// Removes the key's entry, if there is one. Takes no memory.
+    pub fn remove(&mut self, key: &K)
+        requires { IsTrue (is_sorted K.order self.old) }
+        ensures { self.new ≡ without K.order key.now self.old }
+    {
+        rows::remove(&mut self.items, key);
     }
 }

@@ -29,6 +29,34 @@ fn keeps_entries_in_order(rt: HostRuntime) -> Result<(), Fail> {
 }
 
 #[test]
+fn changes_entries_in_place(rt: HostRuntime) -> Result<(), Fail> {
+    let mut table = Table::new(rt.alloc());
+    let mut given = Vec::new(rt.alloc());
+    for entry in [(3u64, 30u64), (1, 10), (2, 20), (3, 33)].iter() {
+        given.push(*entry)?;
+    }
+    table.put_all(given)?;
+    assert_eq!(rt; table.replace(&2, 22), Some(20));
+    assert_eq!(rt; table.as_slice(), [(1, 10), (2, 22), (3, 33)].as_slice());
+    table.remove(&1);
+    assert_eq!(rt; table.as_slice(), [(2, 22), (3, 33)].as_slice());
+    Ok(())
+}
+
+#[test]
+fn finds_entries_in_any_order(rt: HostRuntime) -> Result<(), Fail> {
+    let mut given = Vec::new(rt.alloc());
+    for entry in [(3u64, 30u64), (1, 10), (3, 33)].iter() {
+        given.push(*entry)?;
+    }
+    let table = Table::from_vec(given);
+    assert_eq!(rt; *table.get(&3).ok_or("absent")?, 30);
+    assert_eq!(rt; *table.get(&1).ok_or("absent")?, 10);
+    assert!(rt; table.get(&2).is_none());
+    Ok(())
+}
+
+#[test]
 fn orders_texts_by_bytes(rt: HostRuntime) -> Result<(), Fail> {
     let mut table = Table::new(rt.alloc());
     for key in ["b", "", "ab", "B"].iter() {

@@ -11,7 +11,7 @@ returns-clause-settled g c =
     let p = c.settled-came.new.p in
     let e : c.begun-p.result.state ≡ c.args.state.now = ap (λ (q : Progress). q.state) c.begun-p.ensures ∙ c.replace-taken.ensures.value in
     subst (λ r. IsSettled g.L.Layers.rules c.args.settings.now c.args.now c.args.state.now r p.state) (sym c.settle_reply-reply.ensures)
-    (settles g.L.Layers.rules c.args.settings.now c.args.now c.args.state.now c.requires.interval c.requires.sound c.settled-came.result p (c.settled-came.ensures.goes.few (begun_few c.begun-p.result _ c.begun-p.ensures))
+    (settles g.L.Layers.rules c.args.settings.now c.args.now c.args.state.now c.requires.interval c.requires.steady.sound c.settled-came.result p (c.settled-came.ensures.goes.few (begun_few c.begun-p.result _ c.begun-p.ensures))
     (subst (λ m. Came c.settled-came.result (λ limit. try_settle g.L.Layers.rules c.args.settings.now c.args.now limit m) p) e c.settled-came.ensures.came))
 
 pub returns-clause-begun : goal.returns-clause-begun

@@ -1,4 +1,4 @@
-use Rattle.cat_links.proofs.Relations.{relation_total, relation_antisymmetric}
+use Rattle.cat_types.specs.Relations.{relation_total, relation_antisymmetric}
 use Rattle.cat_links.proofs.counts.count_of.Goals as goal
 
 pub get-requires-clause-total : goal.get-requires-clause-total

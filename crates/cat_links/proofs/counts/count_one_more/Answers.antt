@@ -1,4 +1,4 @@
-use Rattle.cat_links.proofs.Relations.{relation_total, relation_antisymmetric}
+use Rattle.cat_types.specs.Relations.{relation_total, relation_antisymmetric}
 use Rattle.cat_links.proofs.counts.count_one_more.Goals as goal
 
 pub put-requires-clause-total : goal.put-requires-clause-total

@@ -3,10 +3,10 @@ use Rattle.std.specs.List.{filter}
 use Rattle.std.specs.List.Sorted.{IsStrictlySortedBy}
 use Rattle.std.proofs.lemmas.List.Elements.{filter_agree}
 use Rattle.cat_types.specs.Relation.{relation_cmp}
-use Rattle.cat_links.specs.Order.{in_order}
+use Rattle.cat_types.specs.Order.{in_order}
 use Rattle.cat_links.specs.Links.{has}
-use Rattle.cat_links.proofs.Orders.{has-in_order, in_order-rises}
-use Rattle.cat_links.proofs.Relations.{relation_total, relation_antisymmetric}
+use Rattle.cat_types.proofs.Orders.{has-in_order, in_order-rises}
+use Rattle.cat_types.specs.Relations.{relation_total, relation_antisymmetric}
 use Rattle.cat_links.proofs.moved.difference.Goals as goal
 
 pub not_among-requires : goal.not_among-requires

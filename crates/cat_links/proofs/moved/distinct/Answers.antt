@@ -1,4 +1,4 @@
-use Rattle.cat_links.proofs.Relations.{relation_total, relation_antisymmetric}
+use Rattle.cat_types.specs.Relations.{relation_total, relation_antisymmetric}
 use Rattle.cat_links.proofs.moved.distinct.Goals as goal
 
 pub in_order-requires-clause-total : goal.in_order-requires-clause-total

@@ -1,7 +1,7 @@
 use Rattle.std.proofs.Common.{◌∙◌, subst}
 use Rattle.std.specs.List.{insert}
-use Rattle.cat_links.specs.Rows.{IsAt, IsBetween}
-use Rattle.cat_links.proofs.Placed.{put_at, put_between}
+use Rattle.cat_types.specs.Rows.{IsAt, IsBetween}
+use Rattle.cat_types.proofs.Placed.{put_at, put_between}
 use Rattle.cat_links.proofs.rows.put.Goals as goal
 
 pub returns-in-Ok : goal.returns-in-Ok

@@ -1,4 +1,4 @@
-use Rattle.cat_model.specs.Sound.{AreSmall}
+use Rattle.cat_events.specs.Coming.{IsSteady}
 use Rattle.cat_settle.specs.Part.{Goes, HaveRounds}
 use Rattle.cat_settle.proofs.Moves.{left}
 use Rattle.cat_settle.proofs.rounds.all_rounds.Given as goal
@@ -7,7 +7,7 @@ abbrev pub invariant-rounds : goal.invariant-rounds
 invariant-rounds g l = record {
   have : HaveRounds g.L.Layers.rules l.settings l.now l.initial.p l.p;
   goes : Goes g.L.Layers.rules l.initial.p l.p;
-  small : AreSmall l.p.state;
+  steady : IsSteady g.L.Layers.rules l.links l.p.state;
 }
 
 abbrev pub decreases-rounds : goal.decreases-rounds

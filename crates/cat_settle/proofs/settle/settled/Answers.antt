@@ -6,7 +6,7 @@ use Rattle.cat_settle.proofs.settle.settled.Goals as goal
 
 pub returns-in-Ok-clause-came : goal.returns-in-Ok-clause-came
 returns-in-Ok-clause-came g c =
-    marks_whole g.L.Layers.rules c.args.settings.now c.args.now c.requires.interval c.args.p.now.state c.requires.sound c.all_marks.result c.all_rounds.new.p c.all_marks.new.p
+    marks_whole g.L.Layers.rules c.args.settings.now c.args.now c.requires.interval c.args.p.now.state c.requires.steady.sound c.all_marks.result c.all_rounds.new.p c.all_marks.new.p
     (subst (λ q. EndRounds g.L.Layers.rules c.args.settings.now c.args.now q c.all_rounds.new.p) c.requires.begun c.in-Ok.ensures.came) c.all_marks.ensures.goes c.all_marks.ensures.came
 
 pub returns-in-Ok-clause-goes : goal.returns-in-Ok-clause-goes
@@ -14,5 +14,5 @@ returns-in-Ok-clause-goes g c = goes_on g.L.Layers.rules c.args.p.now c.all_roun
 
 pub returns-in-Err-clause-came : goal.returns-in-Err-clause-came
 returns-in-Err-clause-came g c =
-    cut_whole g.L.Layers.rules c.args.settings.now c.args.now c.requires.interval c.args.p.now.state c.requires.sound c.all_rounds.new.p
+    cut_whole g.L.Layers.rules c.args.settings.now c.args.now c.requires.interval c.args.p.now.state c.requires.steady.sound c.all_rounds.new.p
     (subst (λ q. CutRounds g.L.Layers.rules c.args.settings.now c.args.now q c.all_rounds.new.p) c.requires.begun c.in-Err.ensures.came)

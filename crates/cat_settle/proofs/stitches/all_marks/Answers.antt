@@ -1,4 +1,4 @@
-use Rattle.std.proofs.Common.{ap, sym, ◌∙◌}
+use Rattle.std.proofs.Common.{ap, ◌∙◌}
 use Rattle.cat_model.specs.Settle.{try_stitches}
 use Rattle.cat_settle.proofs.Parts.{came_same, cut_here, rests}
 use Rattle.cat_settle.proofs.Stays.{marks_stays}

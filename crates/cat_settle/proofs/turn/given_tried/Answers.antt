@@ -1,7 +1,11 @@
 use Rattle.std.proofs.Common.{ap, sym}
 use Rattle.cat_model.specs.Settle.{try_finish}
-use Rattle.cat_settle.proofs.Parts.{nothing_done, rests, same_done}
+use Rattle.cat_settle.proofs.Parts.{came_same, nothing_done, rests, same_done}
 use Rattle.cat_settle.proofs.turn.given_tried.Goals as goal
+
+pub returns-in-Some-clause-came : goal.returns-in-Some-clause-came
+returns-in-Some-clause-came g c =
+    came_same c.finish_tried.result _ _ (λ limit. sym (ap (λ v. try_finish g.L.Layers.rules c.args.settings.now c.args.now limit v c.args.p.now) c.in-Some.is)) c.finish_tried.new.p c.finish_tried.ensures.came
 
 pub returns-in-None-clause-came : goal.returns-in-None-clause-came
 returns-in-None-clause-came g c =

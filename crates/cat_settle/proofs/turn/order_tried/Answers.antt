@@ -1,5 +1,4 @@
 use Rattle.std.proofs.Common.{ap}
-use Rattle.cat_model.specs.Catalogue.{Rules}
 use Rattle.cat_model.specs.Settle.{try_finish}
 use Rattle.cat_settle.proofs.Parts.{came_same, cut_here, rests}
 use Rattle.cat_settle.proofs.Stays.{order_stays}

@@ -1,7 +1,8 @@
-use Rattle.std.proofs.Common.{sym, ◌∙◌}
+use Rattle.std.proofs.Common.{refl, sym, ◌∙◌}
 use Rattle.cat_model.specs.Step.Event.{TakeAt}
-use Rattle.cat_settle.proofs.Parts.{cut_here, event_done, event_goes, event_small, rests, stopped_done}
-use Rattle.cat_settle.proofs.Stays.{event_stays}
+use Rattle.cat_events.specs.Stepped.{come_to}
+use Rattle.cat_settle.proofs.Called.{taken_steady}
+use Rattle.cat_settle.proofs.Parts.{event_done, event_goes, rests, stopped_done}
 use Rattle.cat_settle.proofs.turn.take_tried.Goals as goal
 
 pub returns-then-is_some-clause-came : goal.returns-then-is_some-clause-came
@@ -10,17 +11,11 @@ returns-then-is_some-clause-came g c = stopped_done g.L.Layers.rules c.args.sett
 pub returns-then-is_some-clause-goes : goal.returns-then-is_some-clause-goes
 returns-then-is_some-clause-goes g c = rests g.L.Layers.rules c.args.p.now
 
-pub returns-in-Ok-clause-came : goal.returns-in-Ok-clause-came
-returns-in-Ok-clause-came g c = event_done g.L.Layers.rules c.args.settings.now (TakeAt c.args.reference.now c.args.now) c.args.p.now c.in-Ok.step c.lease_moved.new.p c.in-Ok.ensures (c.lease_moved.ensures c.args.reference.now c.args.now) (sym c.is_some.ensures ∙ c.if-is_some.false)
+pub returns-clause-came : goal.returns-clause-came
+returns-clause-came g c = event_done g.L.Layers.rules c.args.settings.now (TakeAt c.args.reference.now c.args.now) c.args.p.now (come_to g.L.Layers.rules c.args.settings.now (TakeAt c.args.reference.now c.args.now) c.args.p.now.state) c.taken.new.p refl c.taken.ensures (sym c.is_some.ensures ∙ c.if-is_some.false)
 
-pub returns-in-Ok-clause-small : goal.returns-in-Ok-clause-small
-returns-in-Ok-clause-small g c = event_small g.L.Layers.rules c.args.settings.now (TakeAt c.args.reference.now c.args.now) c.args.p.now c.in-Ok.step c.lease_moved.new.p c.in-Ok.ensures (c.lease_moved.ensures c.args.reference.now c.args.now) (sym c.is_some.ensures ∙ c.if-is_some.false) c.requires.small
+pub returns-clause-steady : goal.returns-clause-steady
+returns-clause-steady g c = λ links h. taken_steady g.L.Layers.rules c.args.settings.now links c.args.reference.now c.args.now c.args.p.now c.taken.new.p c.taken.ensures h
 
-pub returns-in-Ok-clause-goes : goal.returns-in-Ok-clause-goes
-returns-in-Ok-clause-goes g c = event_goes g.L.Layers.rules c.args.settings.now (TakeAt c.args.reference.now c.args.now) c.args.p.now c.in-Ok.step c.lease_moved.new.p c.in-Ok.ensures (c.lease_moved.ensures c.args.reference.now c.args.now) (sym c.is_some.ensures ∙ c.if-is_some.false) c.if-p-ge-MOST_EVENTS.false
-
-pub returns-in-Err-clause-came : goal.returns-in-Err-clause-came
-returns-in-Err-clause-came g c = cut_here _ (event_stays g.L.Layers.rules c.args.settings.now (TakeAt c.args.reference.now c.args.now)) c.args.p.now
-
-pub returns-in-Err-clause-goes : goal.returns-in-Err-clause-goes
-returns-in-Err-clause-goes g c = rests g.L.Layers.rules c.args.p.now
+pub returns-clause-goes : goal.returns-clause-goes
+returns-clause-goes g c = event_goes g.L.Layers.rules c.args.settings.now (TakeAt c.args.reference.now c.args.now) c.args.p.now (come_to g.L.Layers.rules c.args.settings.now (TakeAt c.args.reference.now c.args.now) c.args.p.now.state) c.taken.new.p refl c.taken.ensures (sym c.is_some.ensures ∙ c.if-is_some.false) c.if-p-ge-MOST_EVENTS.false

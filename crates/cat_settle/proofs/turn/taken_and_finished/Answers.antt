@@ -1,4 +1,3 @@
-use Rattle.std.specs.declared.option.Option.{Option}
 use Rattle.cat_model.specs.Settle.{order, try_event, try_finish}
 use Rattle.cat_model.specs.Step.Event.{TakeAt}
 use Rattle.cat_settle.proofs.Parts.{cut_then, done_then, goes_on}

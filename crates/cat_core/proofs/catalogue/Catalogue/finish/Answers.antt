@@ -4,13 +4,18 @@ use Rattle.cat_model.specs.Step.Event.{Finish}
 use Rattle.cat_core.proofs.Calls.{ledger_kept, reply_with, state_with}
 use Rattle.cat_core.proofs.catalogue.Catalogue.finish.Goals as goal
 
+pub finish-came-requires-clause-moments : goal.finish-came-requires-clause-moments
+finish-came-requires-clause-moments g c = record { now_below = c.requires; interval_below = c.self.invariant.settings.interval_to; lease_below = c.self.invariant.settings.lease_to }
+
 pub invariant_of-self : goal.invariant_of-self
-invariant_of-self g c = ledger_kept g.L.Layers.rules (Finish c.args.order.now c.args.now) c.self.inside.ledger c.args.self.now c.self.view_is c.finish_step-came.result c.finish_step-came.ensures c.taken_in.new.state c.taken_in.ensures.state c.self.invariant
+invariant_of-self g c =
+    ledger_kept g.L.Layers.rules (Finish c.args.done.now.order.now c.args.now) c.self.inside.ledger c.args.self.now c.self.view_is c.finish-came.result c.finish-came.new.state c.finish-came.new.links c.finish-came.ensures c.self.inside.links c.self.invariant
 
 pub returns-in-Ok-clause-state : goal.returns-in-Ok-clause-state
 returns-in-Ok-clause-state g c =
-    state_with g.L.Layers.rules (Finish c.args.order.now c.args.now) c.self.inside.ledger c.args.self.now c.self.view_is c.finish_step-came.result c.finish_step-came.ensures c.taken_in.new.state c.taken_in.ensures.state c.taken_in.result c.taken_in.ensures.answer c.with_reply.result c.in-Ok.reply c.with_reply.ensures
+    state_with g.L.Layers.rules (Finish c.args.done.now.order.now c.args.now) c.self.inside.ledger c.args.self.now c.self.view_is c.finish-came.result c.finish-came.new.state c.finish-came.new.links c.finish-came.ensures c.answered.result c.answered.ensures c.with_reply.result c.in-Ok.reply c.with_reply.ensures
 
 pub returns-in-Ok-clause-reply : goal.returns-in-Ok-clause-reply
 returns-in-Ok-clause-reply g c =
-    reply_with g.L.Layers.rules (Finish c.args.order.now c.args.now) c.self.inside.ledger c.args.self.now c.self.view_is c.finish_step-came.result c.finish_step-came.ensures c.taken_in.result c.taken_in.ensures.answer c.with_reply.result c.in-Ok.reply _ c.with_reply.ensures (c.in-Ok.ensures ∙ ap (λ l. finished g.L.Layers.rules c.args.order.now l.state) c.self.view_is)
+    reply_with g.L.Layers.rules (Finish c.args.done.now.order.now c.args.now) c.self.inside.ledger c.args.self.now c.self.view_is c.finish-came.result c.finish-came.new.state c.finish-came.new.links c.finish-came.ensures c.answered.result c.answered.ensures c.with_reply.result c.in-Ok.reply _ c.with_reply.ensures
+    (c.in-Ok.ensures ∙ ap (λ l. finished g.L.Layers.rules c.args.done.now.order.now l.state) c.self.view_is)

@@ -5,12 +5,14 @@ use Rattle.cat_core.proofs.Calls.{ledger_kept, reply_with, state_with}
 use Rattle.cat_core.proofs.catalogue.Catalogue.put_stitch.Goals as goal
 
 pub invariant_of-self : goal.invariant_of-self
-invariant_of-self g c = ledger_kept g.L.Layers.rules (PutStitch c.args.order.now) c.self.inside.ledger c.args.self.now c.self.view_is c.stitch_step-came.result c.stitch_step-came.ensures c.taken_in.new.state c.taken_in.ensures.state c.self.invariant
+invariant_of-self g c =
+    ledger_kept g.L.Layers.rules (PutStitch c.args.stitched.now.order.now) c.self.inside.ledger c.args.self.now c.self.view_is c.put_stitch-came.result c.put_stitch-came.new.state c.self.inside.links c.put_stitch-came.ensures c.self.inside.links c.self.invariant
 
 pub returns-in-Ok-clause-state : goal.returns-in-Ok-clause-state
 returns-in-Ok-clause-state g c =
-    state_with g.L.Layers.rules (PutStitch c.args.order.now) c.self.inside.ledger c.args.self.now c.self.view_is c.stitch_step-came.result c.stitch_step-came.ensures c.taken_in.new.state c.taken_in.ensures.state c.taken_in.result c.taken_in.ensures.answer c.with_reply.result c.in-Ok.placed c.with_reply.ensures
+    state_with g.L.Layers.rules (PutStitch c.args.stitched.now.order.now) c.self.inside.ledger c.args.self.now c.self.view_is c.put_stitch-came.result c.put_stitch-came.new.state c.self.inside.links c.put_stitch-came.ensures c.answered.result c.answered.ensures c.with_reply.result c.in-Ok.placed c.with_reply.ensures
 
 pub returns-in-Ok-clause-reply : goal.returns-in-Ok-clause-reply
 returns-in-Ok-clause-reply g c =
-    reply_with g.L.Layers.rules (PutStitch c.args.order.now) c.self.inside.ledger c.args.self.now c.self.view_is c.stitch_step-came.result c.stitch_step-came.ensures c.taken_in.result c.taken_in.ensures.answer c.with_reply.result c.in-Ok.placed _ c.with_reply.ensures (c.in-Ok.ensures ∙ ap (λ l. placed g.L.Layers.rules c.args.order.now l.state) c.self.view_is)
+    reply_with g.L.Layers.rules (PutStitch c.args.stitched.now.order.now) c.self.inside.ledger c.args.self.now c.self.view_is c.put_stitch-came.result c.put_stitch-came.new.state c.self.inside.links c.put_stitch-came.ensures c.answered.result c.answered.ensures c.with_reply.result c.in-Ok.placed _ c.with_reply.ensures
+    (c.in-Ok.ensures ∙ ap (λ l. placed g.L.Layers.rules c.args.stitched.now.order.now l.state) c.self.view_is)

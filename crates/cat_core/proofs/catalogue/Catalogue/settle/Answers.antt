@@ -12,7 +12,7 @@ pub settle_state-requires-clause-interval : goal.settle_state-requires-clause-in
 settle_state-requires-clause-interval g c = c.self.invariant.settings.interval_from
 
 pub invariant_of-self : goal.invariant_of-self
-invariant_of-self g c = record { settings = c.self.invariant.settings; sound = c.settle_state.ensures.sound; small = c.settle_state.ensures.small; begun = c.settle_state.ensures.begun }
+invariant_of-self g c = record { settings = c.self.invariant.settings; steady = c.settle_state.ensures.steady; begun = c.settle_state.ensures.begun }
 
 pub returns-clause-state : goal.returns-clause-state
 returns-clause-state g c = subst (λ l. IfOk c.settle_state.result (λ x. c.settle_state.new.state ≡ (try_settle g.L.Layers.rules l.settings c.args.now None l.state).state)) c.self.view_is c.settle_state.ensures.settled.state

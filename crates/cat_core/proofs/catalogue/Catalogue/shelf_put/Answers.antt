@@ -4,12 +4,12 @@ use Rattle.cat_core.proofs.catalogue.Catalogue.shelf_put.Goals as goal
 
 pub invariant_of-self : goal.invariant_of-self
 invariant_of-self g c =
-    ledger_kept g.L.Layers.rules (ShelfPut c.args.name.now c.args.body.now) c.self.inside.ledger c.args.self.now c.self.view_is c.shelf_put_step-came.result c.shelf_put_step-came.ensures c.taken_in.new.state c.taken_in.ensures.state c.self.invariant
+    ledger_kept g.L.Layers.rules (ShelfPut c.args.name.now c.args.body.now) c.self.inside.ledger c.args.self.now c.self.view_is c.shelf_put-came.result c.shelf_put-came.new.state c.shelf_put-came.new.links c.shelf_put-came.ensures c.self.inside.links c.self.invariant
 
 pub returns-clause-state : goal.returns-clause-state
 returns-clause-state g c =
-    state_is g.L.Layers.rules (ShelfPut c.args.name.now c.args.body.now) c.self.inside.ledger c.args.self.now c.self.view_is c.shelf_put_step-came.result c.shelf_put_step-came.ensures c.taken_in.new.state c.taken_in.ensures.state c.taken_in.result c.taken_in.ensures.answer
+    state_is g.L.Layers.rules (ShelfPut c.args.name.now c.args.body.now) c.self.inside.ledger c.args.self.now c.self.view_is c.shelf_put-came.result c.shelf_put-came.new.state c.shelf_put-came.new.links c.shelf_put-came.ensures c.answered.result c.answered.ensures
 
 pub returns-clause-reply : goal.returns-clause-reply
 returns-clause-reply g c =
-    reply_is g.L.Layers.rules (ShelfPut c.args.name.now c.args.body.now) c.self.inside.ledger c.args.self.now c.self.view_is c.shelf_put_step-came.result c.shelf_put_step-came.ensures c.taken_in.result c.taken_in.ensures.answer
+    reply_is g.L.Layers.rules (ShelfPut c.args.name.now c.args.body.now) c.self.inside.ledger c.args.self.now c.self.view_is c.shelf_put-came.result c.shelf_put-came.new.state c.shelf_put-came.new.links c.shelf_put-came.ensures c.answered.result c.answered.ensures

@@ -1,7 +1,7 @@
 use Rattle.std.proofs.Common.{subst, sym, ◌∙◌, ◌≡◌, List}
 use Rattle.std.specs.List.{filter}
 use Rattle.cat_types.specs.Table.{Text, text_cmp}
-use Rattle.cat_links.specs.Order.{in_order}
+use Rattle.cat_types.specs.Order.{in_order}
 use Rattle.cat_links.specs.Links.{Emitted, differs}
 use Rattle.cat_links.specs.Changes.{AreChanged, touched, with_changes}
 use Rattle.cat_links.proofs.Changed.{are_changed}

@@ -1,10 +1,10 @@
-use Rattle.std.proofs.Common.{ap, sym, ◌∙◌, rules}
-use Rattle.cat_types.specs.Table.{put}
-use Rattle.cat_types.proofs.Puts.{put_equal}
+use Rattle.std.proofs.Common.{ap, ◌∙◌, is_ok}
+use Rattle.std.specs.FinMap.Entries.{is_sorted}
+use Rattle.cat_types.proofs.Rising.{put_if_rises, rise_where, rises_where}
 use Rattle.cat_types.proofs.table.Table.put.Goals as goal
 
-pub returns-in-Equal : goal.returns-in-Equal
-returns-in-Equal g c =
-    let l = c.loop-place in
-    put_equal g.K.Key.order l.self-inside.items.items l.place c.args.key c.args.value c.index.result.now c.index_mut.result.now (search rules) c.index.ensures c.index_mut.ensures.value (sym c.in-Equal.ensures) l.invariant.1
-    ∙ (ap (λ v. put g.K.Key.order c.args.key c.args.value v.items) l.invariant.2 ∙ ap (put g.K.Key.order c.args.key c.args.value) c.self.view_is)
+pub invariant_of-self : goal.invariant_of-self
+invariant_of-self g c =
+    let old = rises_where g.K.Key.order c.self.inside.rising c.self.inside.items.items c.if-self.true c.self.invariant in
+    rise_where g.K.Key.order c.self.inside.rising c.put.new.rows.items
+    (ap (is_sorted g.K.Key.order) c.put.ensures ∙ put_if_rises g.met.K.Key.total (is_ok c.put.result) c.args.key c.args.value c.self.inside.items.items old)
