@@ -3,8 +3,8 @@ use Rattle.std.proofs.Common.{◌≡◌, ◌≤◌, ◌^◌, List, refl, sym, su
 use Rattle.std.specs.Option.{option_and_then}
 use Rattle.std.specs.Cmp.{nat_cmp_total}
 use Rattle.std.specs.FinMap.{nat_cmp-IsAntisymmetric}
-use Rattle.cat_types.specs.Table.{find, get, keys}
-use Rattle.cat_types.proofs.Tables.{is_sorted-tabulate}
+use Rattle.cat_table.specs.Table.{find, get, keys}
+use Rattle.cat_table.proofs.Tables.{is_sorted-tabulate}
 use Rattle.cat_model.specs.declared.types.Origin.{Origin}
 use Rattle.cat_model.specs.declared.types.Numbered.{Numbered}
 use Rattle.cat_model.specs.declared.types.State.{State}

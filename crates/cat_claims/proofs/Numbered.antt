@@ -8,8 +8,8 @@ use Rattle.std.specs.List.{list_any}
 use Rattle.std.specs.Cmp.{nat_cmp_total}
 use Rattle.std.specs.FinMap.{nat_cmp-IsAntisymmetric}
 use Rattle.cat_types.specs.declared.input.Offered.{Offered}
-use Rattle.cat_types.specs.Table.{same_text, keys, put, over}
-use Rattle.cat_types.proofs.Tables.{text_total, text_antisymmetric, same_is, same_self, find-over, find-put_same, find-put_other, or_true, found_key}
+use Rattle.cat_table.specs.Table.{same_text, keys, put, over}
+use Rattle.cat_table.proofs.Tables.{text_total, text_antisymmetric, same_is, same_self, find-over, find-put_same, find-put_other, or_true, found_key}
 use Rattle.cat_model.specs.declared.types.Origin.{Origin}
 use Rattle.cat_model.specs.declared.types.Row.{Row}
 use Rattle.cat_model.specs.declared.types.Numbered.{Numbered}

@@ -10,8 +10,8 @@ use Rattle.std.specs.FinMap.{nat_cmp-IsAntisymmetric}
 use Rattle.std.specs.FinMap.Entries.{by_order, is_some-find}
 use Rattle.std.proofs.lemmas.Option.{slice_get_past, slice_get-get_or}
 use Rattle.std.proofs.Math.ListN.{get_or}
-use Rattle.cat_types.specs.Table.{keys, put, tabulate}
-use Rattle.cat_types.proofs.Tables.{or_true, same_self}
+use Rattle.cat_table.specs.Table.{keys, put, tabulate}
+use Rattle.cat_table.proofs.Tables.{or_true, same_self}
 use Rattle.cat_model.specs.declared.types.Row.{Row}
 use Rattle.cat_model.specs.Catalogue.{Holders, Rows, row_at}
 use Rattle.cat_claims.specs.declared.turn.Turn.{Turn}

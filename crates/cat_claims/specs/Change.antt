@@ -3,7 +3,7 @@ use Rattle.std.specs.Prelude.{ℕ, Bool, false, not, nat_eq, List}
 use Rattle.std.specs.declared.option.Option.{Option}
 use Rattle.std.specs.declared.option.Option.TheVariants.{None, Some}
 use Rattle.std.specs.List.{filter}
-use Rattle.cat_types.specs.Table.{get, keys}
+use Rattle.cat_table.specs.Table.{get, keys}
 use Rattle.cat_model.specs.Catalogue.{Ref, Holders, held}
 
 -- the references that aren't held before and are after, in order

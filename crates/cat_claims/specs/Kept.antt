@@ -3,7 +3,7 @@ use Rattle.std.specs.Prelude.{◌≡◌, ℕ, ◌<◌, ◌≤◌, ◌^◌, T, Li
 use Rattle.std.specs.declared.option.Option.TheVariants.{Some}
 use Rattle.std.specs.Ordering.{nat_cmp}
 use Rattle.std.specs.FinMap.Entries.{is_sorted}
-use Rattle.cat_types.specs.Table.{text_cmp}
+use Rattle.cat_table.specs.Table.{text_cmp}
 use Rattle.cat_model.specs.declared.types.Row.{Row}
 use Rattle.cat_model.specs.Catalogue.{Ref, Rows, row_at}
 use Rattle.cat_model.specs.Sound.{AreHolders}

@@ -6,7 +6,7 @@ use Rattle.std.specs.declared.option.Option.TheVariants.{None, Some}
 use Rattle.std.specs.Option.{option_and_then}
 use Rattle.std.specs.Ordering.{nat_cmp, ordering_then}
 use Rattle.std.specs.List.{filter}
-use Rattle.cat_types.specs.Table.{get, keys, tabulate, text_cmp}
+use Rattle.cat_table.specs.Table.{get, keys, tabulate, text_cmp}
 use Rattle.cat_model.specs.declared.types.Row.{Row}
 use Rattle.cat_model.specs.Catalogue.{Holders, Rows, row_at}
 use Rattle.cat_claims.specs.declared.turn.Turn.{Turn}

@@ -1,6 +1,6 @@
 //! Claims, and plans of their change.
 ghost use Rattle.std.specs.Prelude.{◌≡◌, ◌<◌, ◌≤◌, ◌^◌, ◌↔◌, IfOk, IsNone, length, option_map};
-ghost use Rattle.cat_types.specs.Table.{get};
+ghost use Rattle.cat_table.specs.Table.{get};
 ghost use Rattle.cat_model.specs.Catalogue.{holding, row_at};
 ghost use Rattle.cat_claims.specs.Change.{held_by_another, newly_held, no_longer_held};
 ghost use Rattle.cat_claims.specs.Claims.{no_claims, replaced_claims, row_from};
@@ -16,8 +16,9 @@ use crate::waiting::turns_of;
 use cat_hold::hold::row_of;
 use cat_model::types::{Origin, Row};
 use cat_ref::reference::Ref;
+use cat_table::listing::{Copied, Listing};
 use cat_types::input::Offered;
-use cat_types::table::{Copied, Listing, Table};
+use cat_types::table::Table;
 use std::alloc::{AllocError, Global};
 use std::marker::Model;
 

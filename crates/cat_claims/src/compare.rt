@@ -1,13 +1,14 @@
 //! The references whose holder changes.
 ghost use Rattle.std.specs.Prelude.{◌≡◌, IfOk, Bool, not, Option, option_map};
-ghost use Rattle.cat_types.specs.Table.{get};
+ghost use Rattle.cat_table.specs.Table.{get};
 ghost use Rattle.cat_model.specs.Catalogue.{held};
 ghost use Rattle.cat_claims.specs.Change.{are_others, held_by_another, newly_held, no_longer_held};
 
 use cat_hold::build::{Passes, filtered};
 use cat_hold::hold::is_held;
 use cat_ref::reference::Ref;
-use cat_types::table::{Listing, Table};
+use cat_table::listing::Listing;
+use cat_types::table::Table;
 use std::alloc::{AllocError, Global};
 
 #[derive(Drop)]

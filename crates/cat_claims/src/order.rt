@@ -3,7 +3,7 @@ ghost use Rattle.cat_claims.specs.Turns.{turn_apart, turn_total};
 ghost use Rattle.cat_claims.specs.Waiting.{turn_cmp};
 
 use crate::turn::Turn;
-use cat_types::table::Key;
+use cat_table::key::Key;
 use std::cmp::Ordering;
 
 impl Key for Turn {

@@ -9,8 +9,9 @@ use cat_events::without::is_same;
 use cat_hold::hold::{reheld_holders, standing_rows};
 use cat_model::types::{Numbered, Origin, Row, State};
 use cat_ref::reference::Ref;
+use cat_table::listing::Copied;
 use cat_types::input::Offered;
-use cat_types::table::{Copied, Table};
+use cat_types::table::Table;
 use std::alloc::{AllocError, Global};
 
 fn is_same_origin(left: &Origin, right: &Origin) -> bool

@@ -1,7 +1,8 @@
 //! Which rows there are, and which of them hold.
 use cat_model::types::{Origin, Row};
 use cat_ref::reference::Ref;
-use cat_types::table::{Copied, Table};
+use cat_table::listing::Copied;
+use cat_types::table::Table;
 use std::alloc::{AllocError, Global};
 
 /// The rows by arrival, the arrival of the row that holds each reference, and the next arrival.

@@ -20,7 +20,7 @@ fn offers_of(alloc: Global, names: &str) -> Result<Table<Ref, Offered>, Fail> {
     let mut offers = Table::new(alloc);
     for name in names.split_whitespace() {
         let key = Text::of(alloc, "key")?;
-        let tree = Node::new(Tree::Null);
+        let tree = Node::new(alloc, Tree::Null)?;
         offers.put(parse(alloc, name, None, "x")?, Offered { key, tree })?;
     }
     Ok(offers)

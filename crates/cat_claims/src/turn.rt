@@ -1,6 +1,6 @@
 //! A place in the walk of the rows that don't hold.
 use cat_ref::reference::Ref;
-use cat_types::table::Copied;
+use cat_table::listing::Copied;
 use std::alloc::{AllocError, Global};
 
 /// The reference and the arrival of a row. Turns are ordered by reference, and then by arrival.

@@ -6,7 +6,8 @@ use crate::tables::Tables;
 use crate::turn::Turn;
 use cat_hold::build::tabulated;
 use cat_hold::parts::Present;
-use cat_types::table::{Copied, Listing, Table};
+use cat_table::listing::{Copied, Listing};
+use cat_types::table::Table;
 use std::alloc::{AllocError, Global};
 
 fn is_holder(arrival: u64, holder: Option<&u64>) -> bool

@@ -1,7 +1,7 @@
 //! The catalogue.
 ghost use Rattle.std.specs.Prelude.{◌≡◌, ℕ, ◌<◌, ◌≤◌, ◌^◌, IfOk, IfErr, Option, IsTrue, ◌↔◌, is_ok, option_map, slice_get};
 ghost use Rattle.std.specs.declared.option.Option.TheVariants.{None};
-ghost use Rattle.cat_types.specs.Table.{get};
+ghost use Rattle.cat_table.specs.Table.{get};
 ghost use Rattle.cat_model.specs.Catalogue.{holding};
 ghost use Rattle.cat_model.specs.Fresh.{IsFresh};
 ghost use Rattle.cat_model.specs.Given.{given};
@@ -40,11 +40,12 @@ use cat_model::types::{
 };
 use cat_ref::reference::Ref;
 use cat_settle::settle::settled;
+use cat_table::listing::Listing;
 use cat_tree::text::Text;
 use cat_types::input::Mutation;
 use cat_types::issue::Issue;
 use cat_types::node::Node;
-use cat_types::table::{Listing, Table};
+use cat_types::table::Table;
 use std::alloc::{AllocError, Global};
 use std::marker::Model;
 use std::mem;
@@ -189,7 +190,7 @@ impl<L: Layers> Catalogue<L> {
         Catalogue {
             layers,
             ledger: Ledger { settings, state },
-            links: Links::empty(alloc),
+            links: Links::empty(),
         }
     }
 

@@ -2,7 +2,7 @@
 ghost use Rattle.std.specs.Prelude.{◌≡◌, ◌&&◌, cond, IfOk, ℕ, List, Option, Bool, option_map};
 ghost use Rattle.std.specs.declared.option.Option.TheVariants.{None, Some};
 ghost use Rattle.std.specs.List.{filter};
-ghost use Rattle.cat_types.specs.Table.{first, get, keys};
+ghost use Rattle.cat_table.specs.Table.{first, get, keys};
 ghost use Rattle.cat_model.specs.Catalogue.{known_refs};
 ghost use Rattle.cat_model.specs.Step.{due_at, earlier, earliest, has_number, is_free, may_take, next_taken, ref_at};
 ghost use Rattle.cat_model.specs.Step.Event.{ForgetNumber};
@@ -16,7 +16,7 @@ use cat_hold::layers::Layers;
 use cat_links::links::Links;
 use cat_model::types::{Fault, Lease, Orphan, Record, Settings, State};
 use cat_ref::reference::Ref;
-use cat_types::table::Copied;
+use cat_table::listing::Copied;
 use std::alloc::{AllocError, Global};
 
 /// Whether a record, or else an orphan, has this number.

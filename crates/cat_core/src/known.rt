@@ -1,6 +1,6 @@
 //! What is asked of the references that are known, without memory.
 ghost use Rattle.std.specs.Prelude.{◌≡◌, Option, option_map};
-ghost use Rattle.cat_types.specs.Table.{first, get, keys, text_cmp};
+ghost use Rattle.cat_table.specs.Table.{first, get, keys, text_cmp};
 ghost use Rattle.cat_model.specs.Catalogue.{known_refs};
 ghost use Rattle.cat_model.specs.Reply.{comes_after, next_known};
 ghost use Rattle.cat_model.specs.Step.{has_number, ref_at};
@@ -10,13 +10,13 @@ ghost use Rattle.std.specs.declared.option.Option.TheVariants.{None};
 use crate::extra::numbered;
 use cat_model::types::State;
 use cat_ref::reference::Ref;
-use cat_types::table::Key;
+use cat_table::key::Key;
 use std::cmp::Ordering;
 
 /// A test of references that takes no memory.
 pub trait Tells {
     ghost use Rattle.std.specs.Prelude.{Bool};
-    ghost use Rattle.cat_types.specs.Table.{Text};
+    ghost use Rattle.cat_table.specs.Table.{Text};
 
     ghost tells: { Self → Text → Bool };
 

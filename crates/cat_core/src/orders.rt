@@ -2,7 +2,7 @@
 ghost use Rattle.std.specs.Prelude.{◌≡◌, IfOk, IsTrue, Option, option_map};
 ghost use Rattle.std.specs.declared.option.Option.TheVariants.{None};
 ghost use Rattle.std.specs.FinMap.Entries.{is_sorted};
-ghost use Rattle.cat_types.specs.Table.{get, text_cmp};
+ghost use Rattle.cat_table.specs.Table.{get, text_cmp};
 ghost use Rattle.cat_model.specs.Catalogue.{work};
 ghost use Rattle.cat_model.specs.Reply.{finished, finished_as, taken, token_of};
 ghost use Rattle.cat_model.specs.Sound.{AreSmall};
@@ -19,7 +19,7 @@ use cat_hold::layers::Layers;
 use cat_hold::parts::work_of;
 use cat_model::types::{Fault, Finished, Order, Record, Settings, State};
 use cat_ref::reference::Ref;
-use cat_types::table::Copied;
+use cat_table::listing::Copied;
 use cat_types::work::{Outcome, Work};
 use std::alloc::{AllocError, Global};
 

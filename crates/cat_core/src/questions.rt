@@ -1,6 +1,6 @@
 //! What is asked of a state.
 ghost use Rattle.std.specs.Prelude.{◌≡◌, ◌≤◌, ◌&&◌, IfOk, ℕ, List, Option, Bool, length, option_map};
-ghost use Rattle.cat_types.specs.Table.{get, keys};
+ghost use Rattle.cat_table.specs.Table.{get, keys};
 ghost use Rattle.cat_frame.specs.Linked.{AreLinked, AreRecorded};
 ghost use Rattle.cat_model.specs.Catalogue.{holding};
 ghost use Rattle.cat_model.specs.Reply.{is_leased, is_live, is_quiet, issues_at, leased_refs, mark_above, next_mark, next_stitch, placed, resting, state_counts};
@@ -16,8 +16,8 @@ use cat_model::types::{Lease, Placed, Record, State, StateCounts, StitchOrder};
 use cat_ref::reference::Ref;
 use cat_settle::order::due;
 use cat_settle::stitches::sorted_marks;
+use cat_table::listing::{Copied, Listing};
 use cat_types::issue::Issue;
-use cat_types::table::{Copied, Listing};
 use std::alloc::{AllocError, Global};
 
 fn none_due(m: &State, now: u64) -> bool

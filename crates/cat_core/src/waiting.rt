@@ -7,7 +7,7 @@ ghost use Rattle.cat_core.specs.Least.{nearer};
 ghost use Rattle.cat_core.specs.Waits.{is_above, next_waiting, place_of, waits_at};
 
 use cat_model::types::{Row, State};
-use cat_types::table::Key;
+use cat_table::key::Key;
 use std::cmp::Ordering;
 
 // Rows by reference, and then by arrival.

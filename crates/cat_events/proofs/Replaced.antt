@@ -8,9 +8,9 @@ use Rattle.std.specs.Ordering.{eq_by_cmp}
 use Rattle.std.specs.Cmp.{IsTotalOrder}
 use Rattle.std.specs.FinMap.{IsAntisymmetric}
 use Rattle.std.specs.FinMap.Entries.{find-put, find-where_key, is_sorted, is_sorted-put, is_sorted-where_key, same_entries}
-use Rattle.cat_types.specs.Rows.{without}
-use Rattle.cat_types.specs.Table.{find, keys, over, put, tabulate}
-use Rattle.cat_types.proofs.Tables.{find-over, is_sorted-tabulate, same_is, same_self}
+use Rattle.cat_table.specs.Rows.{without}
+use Rattle.cat_table.specs.Table.{find, keys, over, put, tabulate}
+use Rattle.cat_table.proofs.Tables.{find-over, is_sorted-tabulate, same_is, same_self}
 
 pub to_T : (b : Bool) → b ≡ true → T b
 to_T true h = tt

@@ -15,15 +15,16 @@ use Rattle.std.specs.List.Sorted.{IsStrictlySortedBy}
 use Rattle.std.proofs.lemmas.List.Folds.{list_any-append}
 use Rattle.std.proofs.lemmas.Bool.Decides.{nat_tests}
 use Rattle.cat_tree.proofs.Equality.{is_same-true}
-use Rattle.cat_types.specs.Table.{Map, get, keys, over, put, puts, same_text, text_cmp}
+use Rattle.cat_table.specs.Table.{Map, get, keys, over, put, puts, same_text, text_cmp}
 use Rattle.cat_types.specs.declared.input.Offered.{Offered}
 use Rattle.cat_types.specs.declared.work.Outcome.{Outcome}
 use Rattle.cat_types.specs.declared.work.Outcome.TheVariants.{Good, Bad}
-use Rattle.cat_types.specs.Order.{in_order}
-use Rattle.cat_types.proofs.Orders.{has-in_order, in_order-rises}
-use Rattle.cat_types.proofs.Tables.{text_total, text_antisymmetric, and_first, and_second, find-over, find-put_other, find-put_same, is_sorted-tabulate, same_is, same_self}
-use Rattle.cat_links.specs.Changes.{AreChanged}
-use Rattle.cat_links.specs.Links.{Emitted}
+use Rattle.cat_table.specs.Order.{in_order}
+use Rattle.cat_table.proofs.Orders.{has-in_order, in_order-rises}
+use Rattle.cat_table.proofs.Tables.{text_total, text_antisymmetric, and_first, and_second, find-over, find-put_other, find-put_same, is_sorted-tabulate, same_is, same_self}
+use Rattle.cat_links.specs.Changes.{AreChanged, with_emitter}
+use Rattle.cat_links.proofs.Counted.{emitted-with_emitter, sorted-with_emitter}
+use Rattle.cat_links.specs.Links.{Emitted, emitted_by}
 use Rattle.cat_model.specs.declared.types.Fault.{Fault}
 use Rattle.cat_model.specs.declared.types.Fault.TheVariants.{Spent}
 use Rattle.cat_model.specs.declared.types.Counter.{Counter}
@@ -209,13 +210,13 @@ module _ (m : State) (r : Ref) (y : Record) where
   }
 
   -- the links where the record emits what it does
-  pub alone_linked : (rules : Rules) (links : Emitted) → AreLinked rules links m → AreLinked rules (put text_cmp r (emits rules r y.output) links) (with_record r y m)
+  pub alone_linked : (rules : Rules) (links : Emitted) → AreLinked rules links m → AreLinked rules (with_emitter r (emits rules r y.output) links) (with_record r y m)
   alone_linked rules links linked = record {
-    in_order = is_sorted-put text_cmp text_total r (emits rules r y.output) links linked.in_order;
-    each = λ e. ap (λ v. unwrap_or v []) (find-put text_cmp text_total e r (emits rules r y.output) links) ∙ go e (same_text e r) refl;
+    in_order = sorted-with_emitter r (emits rules r y.output) links linked.in_order;
+    each = λ e. emitted-with_emitter r e (emits rules r y.output) links ∙ go e (same_text e r) refl;
   }
     where
-      go : (e : Ref) (b : Bool) → same_text e r ≡ b → unwrap_or (cond b (Some (emits rules r y.output)) (get links e)) [] ≡ emits rules e (output_of (with_record r y m).records e)
+      go : (e : Ref) (b : Bool) → same_text e r ≡ b → cond b (emits rules r y.output) (emitted_by links e) ≡ emits rules e (output_of (with_record r y m).records e)
       go e true is =
           let same : e ≡ r = same_is text_total text_antisymmetric e r is in
           sym (ap (λ k. emits rules k (output_of (with_record r y m).records k)) same ∙ ap (λ v. emits rules r (option_and_then (λ (z : Record). z.output) v)) (find-put_same text_total text_antisymmetric r y m.records))

@@ -2,7 +2,7 @@
 use Rattle.std.proofs.Common.{◌≡◌, true, cond, ◌&&◌, ◌||◌, is_some, is_none, refl, sym, ap, ◌∙◌, true≢false}
 use Rattle.std.specs.declared.option.Option.{Option}
 use Rattle.std.specs.declared.option.Option.TheVariants.{None, Some}
-use Rattle.cat_types.specs.Table.{Text, get}
+use Rattle.cat_table.specs.Table.{Text, get}
 use Rattle.cat_model.specs.declared.types.Fault.{Fault}
 use Rattle.cat_model.specs.declared.types.Fault.TheVariants.{NotFound}
 use Rattle.cat_model.specs.declared.types.Orphan.{Orphan}

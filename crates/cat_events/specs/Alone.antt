@@ -5,7 +5,7 @@ use Rattle.std.specs.declared.option.Option.TheVariants.{None, Some}
 use Rattle.std.specs.declared.result.Result.{Result}
 use Rattle.std.specs.declared.result.Result.TheVariants.{Ok, Err}
 use Rattle.cat_tree.specs.Same.{is_same}
-use Rattle.cat_types.specs.Table.{Map, get, keys, put, puts, same_text, text_cmp}
+use Rattle.cat_table.specs.Table.{Map, get, keys, put, puts, same_text, text_cmp}
 use Rattle.cat_types.specs.declared.input.Offered.{Offered}
 use Rattle.cat_types.specs.declared.work.Outcome.{Outcome}
 use Rattle.cat_types.specs.declared.work.Outcome.TheVariants.{Good, Bad}

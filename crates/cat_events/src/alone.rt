@@ -3,8 +3,8 @@ ghost use Rattle.std.specs.Prelude.{◌≡◌, ◌≤◌, ◌^◌, ◌||◌, ◌
 ghost use Rattle.std.specs.List.{list_any};
 ghost use Rattle.std.specs.FinMap.Entries.{is_sorted};
 ghost use Rattle.std.specs.List.Sorted.{IsStrictlySortedBy};
-ghost use Rattle.cat_types.specs.Table.{get, keys, put, same_text, text_cmp};
-ghost use Rattle.cat_links.specs.Changes.{AreChanged};
+ghost use Rattle.cat_table.specs.Table.{get, keys, put, same_text, text_cmp};
+ghost use Rattle.cat_links.specs.Changes.{AreChanged, with_emitter};
 ghost use Rattle.cat_frame.specs.Linked.{AreLinked, moved};
 ghost use Rattle.cat_model.specs.Catalogue.{changed_refs, emits, tickets};
 ghost use Rattle.cat_model.specs.Sound.{AreSmall};
@@ -23,9 +23,10 @@ use cat_hold::parts::{Present, append, same_option_parts};
 use cat_links::links::{EmitChange, LinkPlan, Links};
 use cat_model::types::{Counter, Fault, Origin, Record, Row, State};
 use cat_ref::reference::Ref;
+use cat_table::listing::{Copied, Listing};
 use cat_types::input::Offered;
 use cat_types::relation::Relation;
-use cat_types::table::{Copied, Listing, Table};
+use cat_types::table::Table;
 use cat_types::work::Outcome;
 use std::alloc::{AllocError, Global};
 
@@ -122,7 +123,7 @@ fn relinked<L: Layers>(
     kept: &Record,
     links: &Links,
 ) -> Result<LinkPlan, AllocError>
-    ensures after { IfOk result (λ plan. plan.after ≡ put text_cmp reference.now (emits L.rules reference.now kept.now.output) links.now) }
+    ensures after { IfOk result (λ plan. plan.after ≡ with_emitter reference.now (emits L.rules reference.now kept.now.output) links.now) }
     ensures changed { IfOk result (λ plan. AreChanged links.now plan.after plan.changed) }
 {
     let relations = relations_kept(alloc, layers, reference, kept)?;

@@ -1,7 +1,7 @@
 //! Shelf changes, refreshes and forgets.
 ghost use Rattle.std.specs.Prelude.{◌≡◌, ◌≤◌, ◌^◌, IfOk, Option, Bool, [], is_some, option_map};
 ghost use Rattle.std.specs.declared.option.Option.TheVariants.{None, Some};
-ghost use Rattle.cat_types.specs.Table.{first, get, put, text_cmp};
+ghost use Rattle.cat_table.specs.Table.{first, get, put, text_cmp};
 ghost use Rattle.cat_model.specs.declared.types.Origin.TheVariants.{Entity};
 ghost use Rattle.cat_model.specs.Sound.{AreSmall};
 ghost use Rattle.cat_model.specs.Step.{forgotten, replaced, without_key};
@@ -19,8 +19,9 @@ use cat_hold::layers::Layers;
 use cat_links::links::Links;
 use cat_model::types::{Fault, Leaving, Numbered, Origin, Settings, State};
 use cat_ref::reference::Ref;
+use cat_table::listing::Copied;
 use cat_tree::text::Text;
-use cat_types::table::{Copied, Table};
+use cat_types::table::Table;
 use std::alloc::{AllocError, Global};
 
 fn with_text(alloc: Global, name: &Text, text: &Text, m: &State) -> Result<State, AllocError>

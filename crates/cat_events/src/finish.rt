@@ -1,7 +1,7 @@
 //! Finishes.
 ghost use Rattle.std.specs.Prelude.{◌≡◌, ◌+◌, ◌<◌, ◌≤◌, ◌^◌, true, IfOk, Option};
 ghost use Rattle.std.specs.declared.option.Option.TheVariants.{Some};
-ghost use Rattle.cat_types.specs.Table.{get};
+ghost use Rattle.cat_table.specs.Table.{get};
 ghost use Rattle.cat_frame.specs.Linked.{AreLinked};
 ghost use Rattle.cat_model.specs.declared.types.Leaving.TheVariants.{Orphaned};
 ghost use Rattle.cat_model.specs.Catalogue.{changed_refs, frame, tickets};
@@ -23,7 +23,7 @@ use cat_hold::layers::Layers;
 use cat_links::links::{LinkPlan, Links};
 use cat_model::types::{Fault, Leaving, Numbered, Origin, Record, Settings, State};
 use cat_ref::reference::Ref;
-use cat_types::table::Copied;
+use cat_table::listing::Copied;
 use cat_types::work::Outcome;
 use std::alloc::{AllocError, Global};
 

@@ -1,7 +1,7 @@
 //! What changes a record in place: takes and refreshes. Neither takes memory.
 ghost use Rattle.std.specs.Prelude.{◌≡◌, ◌+◌, ◌<◌, ◌≤◌, ◌^◌, IfOk, IsTrue, Option, is_some, option_map};
 ghost use Rattle.std.specs.FinMap.Entries.{is_sorted};
-ghost use Rattle.cat_types.specs.Table.{get, put, text_cmp};
+ghost use Rattle.cat_table.specs.Table.{get, put, text_cmp};
 ghost use Rattle.cat_model.specs.Sound.{AreSmall};
 ghost use Rattle.cat_model.specs.Step.{leased, with_record};
 ghost use Rattle.cat_model.specs.Step.Event.{Refresh, TakeAt};
@@ -13,7 +13,8 @@ use crate::refusal::MOST;
 use cat_hold::layers::Layers;
 use cat_model::types::{Counter, Fault, Lease, Record, Settings, State};
 use cat_ref::reference::Ref;
-use cat_types::table::{Listing, Table};
+use cat_table::listing::Listing;
+use cat_types::table::Table;
 use std::alloc::Global;
 
 // Stands in for a record while that is changed.

@@ -2,7 +2,7 @@
 ghost use Rattle.std.specs.Prelude.{◌≡◌, ◌<◌, ◌≤◌, ◌^◌, IfOk, Option, Bool, [], cond, option_and_then};
 ghost use Rattle.std.specs.declared.option.Option.TheVariants.{None, Some};
 ghost use Rattle.std.specs.List.{list_any};
-ghost use Rattle.cat_types.specs.Table.{find, get, same_text, text_cmp};
+ghost use Rattle.cat_table.specs.Table.{find, get, same_text, text_cmp};
 ghost use Rattle.cat_model.specs.declared.types.Leaving.TheVariants.{Deleted};
 ghost use Rattle.cat_model.specs.Catalogue.{frame};
 ghost use Rattle.cat_model.specs.Sound.{AreSmall};
@@ -22,9 +22,10 @@ use cat_hold::layers::Layers;
 use cat_links::links::{LinkPlan, Links};
 use cat_model::types::{Fault, Given, Leaving, Origin, ProviderInputs, Settings, State};
 use cat_ref::reference::Ref;
+use cat_table::listing::{Copied, Listing};
 use cat_tree::text::Text;
 use cat_types::input::Offered;
-use cat_types::table::{Copied, Listing, Table};
+use cat_types::table::Table;
 use std::alloc::{AllocError, Global};
 
 fn is_removed(refs: &[Ref], reference: &Ref) -> bool

@@ -1,7 +1,7 @@
 //! Whether an order is the present one.
 ghost use Rattle.std.specs.Prelude.{◌≡◌, ◌&&◌, IfOk, Option, Bool, option_map};
 ghost use Rattle.std.specs.declared.option.Option.TheVariants.{Some};
-ghost use Rattle.cat_types.specs.Table.{get};
+ghost use Rattle.cat_table.specs.Table.{get};
 ghost use Rattle.cat_links.specs.Links.{Emitted};
 ghost use Rattle.cat_frame.specs.Linked.{AreLinked, AreRecorded};
 ghost use Rattle.cat_model.specs.Catalogue.{same_option, work};

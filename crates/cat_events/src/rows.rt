@@ -1,7 +1,7 @@
 //! The rows of one origin are replaced.
 ghost use Rattle.std.specs.Prelude.{◌≡◌, ◌+◌, ◌<◌, ◌≤◌, ◌^◌, IfOk, Option, Bool, option_map, option_and_then};
 ghost use Rattle.std.specs.Ordering.{nat_cmp};
-ghost use Rattle.cat_types.specs.Table.{find, get, keys};
+ghost use Rattle.cat_table.specs.Table.{find, get, keys};
 ghost use Rattle.cat_model.specs.Catalogue.{row_at};
 ghost use Rattle.cat_model.specs.Step.{add_offer, add_offers, has_row, is_offer, offered_again, replaced, row_after, same_origin};
 
@@ -9,8 +9,9 @@ use crate::without::is_same;
 use cat_hold::build::{Gives, tabulated};
 use cat_model::types::{Numbered, Origin, Row, State};
 use cat_ref::reference::Ref;
+use cat_table::listing::Copied;
 use cat_types::input::Offered;
-use cat_types::table::{Copied, Table};
+use cat_types::table::Table;
 use std::alloc::{AllocError, Global};
 
 /// Whether two origins are one.

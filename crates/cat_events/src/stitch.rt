@@ -9,7 +9,7 @@ use crate::present::present_stitch;
 use cat_hold::layers::Layers;
 use cat_links::links::Links;
 use cat_model::types::{Fault, Settings, State};
-use cat_types::table::Copied;
+use cat_table::listing::Copied;
 use std::alloc::{AllocError, Global};
 
 /// Stores a document, where its order is the present one. Otherwise it is late, and changes nothing.

@@ -2,10 +2,12 @@
 ghost use Rattle.std.specs.Prelude.{◌≡◌, IfOk, cond, option_and_then};
 ghost use Rattle.std.specs.declared.option.Option.TheVariants.{None, Some};
 ghost use Rattle.std.specs.Ordering.{eq_by_cmp};
-ghost use Rattle.cat_types.specs.Table.{find, over};
+ghost use Rattle.cat_table.specs.Table.{find, over};
 
 use cat_hold::build::{Gives, tabulated};
-use cat_types::table::{Copied, Key, Table};
+use cat_table::key::Key;
+use cat_table::listing::Copied;
+use cat_types::table::Table;
 use std::alloc::{AllocError, Global};
 use std::cmp::Ordering;
 

@@ -9,7 +9,7 @@ use Rattle.cat_ref.specs.Reference.{named}
 use Rattle.cat_ref.specs.Reading.{reading}
 use Rattle.cat_schema.specs.Rules.{rule_19, rule_20, rule_21, rule_22, rule_23, rule_24, of_metadata, of_spec, of_root, breaches}
 use Rattle.cat_schema.specs.Faults.{field, members, values, keys, member_fields}
-use Rattle.cat_target.specs.Names as names
+use Rattle.cat_target.specs.Base.{base_named}
 use Rattle.cat_target.specs.Resolve.{base_url, url_name, pieces_before, step as up_or_down, file_text, file_name, joined_name, name_of}
 use Rattle.cat_target.specs.Location.{spec_words, more_texts, target_texts, origin, base_of, type_of, is_optional}
 use Rattle.cat_target.specs.Targets.{targets_of}
@@ -17,7 +17,7 @@ use Rattle.cat_inputs.specs.Reading.{tree_reading}
 use Rattle.cat_inputs.specs.Inputs.{mutation_of}
 use Rattle.cat_inputs.specs.Shelf.{shelf_reading}
 use Rattle.cat_kinds.specs.Kinds.{namespace_of, kind_faults, relations_of}
-use Rattle.cat_kinds.specs.Mentions.{kind_of, mentions_in, mentions_by, mentions}
+use Rattle.cat_kinds.specs.Mentions.{mentions_in, mentions_by, mentions}
 use Rattle.cat_stitch.specs.Uid.{uid}
 use Rattle.cat_stitch.specs.Document.{document}
 use Rattle.cat_process.specs.Process.{is_location, wanted_of, contents_of, schema_issues, reference_issues, target_issues, content_issues, entity_of, result_of, shelf_refs}
@@ -29,5 +29,5 @@ use Rattle.cat_lines.specs.Runs.{line_after, line_reply}
 use Rattle.cat_transcript.specs.Session.{session_after, session_reply}
 
 unfoldable pub on_literals : ⊤
-unfolding chars is_utf8 encode_utf8 serde_json_on_literals url_on_literals is_kind is_name is_namespace is_subdomain is_key is_tag is_location_type is_shelf_name named reading rule_19 rule_20 rule_21 rule_22 rule_23 rule_24 of_metadata of_spec of_root breaches field members values keys member_fields names.is_location_type names.name_parts names.is_shelf_name base_url url_name pieces_before up_or_down file_text file_name joined_name name_of spec_words more_texts target_texts origin base_of type_of is_optional targets_of tree_reading mutation_of shelf_reading namespace_of kind_faults relations_of kind_of mentions_in mentions_by mentions uid document is_location wanted_of contents_of schema_issues reference_issues target_issues content_issues entity_of result_of shelf_refs origin_of annotated all_offers step try_settle line_of line_after line_reply session_after session_reply
+unfolding chars is_utf8 encode_utf8 serde_json_on_literals url_on_literals is_kind is_name is_namespace is_subdomain is_key is_tag is_location_type is_shelf_name named reading rule_19 rule_20 rule_21 rule_22 rule_23 rule_24 of_metadata of_spec of_root breaches field members values keys member_fields base_named base_url url_name pieces_before up_or_down file_text file_name joined_name name_of spec_words more_texts target_texts origin base_of type_of is_optional targets_of tree_reading mutation_of shelf_reading namespace_of kind_faults relations_of mentions_in mentions_by mentions uid document is_location wanted_of contents_of schema_issues reference_issues target_issues content_issues entity_of result_of shelf_refs origin_of annotated all_offers step try_settle line_of line_after line_reply session_after session_reply
 on_literals = tt

@@ -1,6 +1,6 @@
 -- Sessions of the program over the real lower layers, from an empty catalogue on.
 use Rattle.std.specs.Prelude.{ℕ, List, [], ◌∷◌, ◌++◌, map, codes}
-use Rattle.cat_types.specs.Table.{Text}
+use Rattle.cat_table.specs.Table.{Text}
 use Rattle.cat_layers.specs.Layered.{layered}
 use Rattle.cat_lines.specs.Lines.{lines as lines_of}
 use Rattle.cat_lines.specs.Runs.{after_lines, replies}

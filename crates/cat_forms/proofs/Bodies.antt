@@ -8,7 +8,7 @@ use Rattle.cat_tree.specs.Proper.{IsProper, ItemsProper, MembersProper}
 use Rattle.cat_tree.specs.declared.read.TreeFault.{TreeFault}
 use Rattle.cat_ref.specs.Reference.{described}
 use Rattle.cat_ref.specs.declared.fault.RefFault.{RefFault}
-use Rattle.cat_types.specs.Table.{Text}
+use Rattle.cat_table.specs.Table.{Text}
 use Rattle.cat_types.specs.declared.input.Item.{Item}
 use Rattle.cat_types.specs.declared.input.Mutation.{Mutation}
 use Rattle.cat_inputs.specs.Body.{Entry, Body, and_then, each_from, key_at, entry_with, entry_in, entries_from, entries_in, entries_of, texts_of, serial_of, field, body_with, body_in}

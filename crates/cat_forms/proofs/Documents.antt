@@ -7,7 +7,7 @@ use Rattle.cat_tree.specs.Edit.{with_key}
 use Rattle.cat_tree.proofs.Edits.{child_of-with_key_other, child_of-without_key_other}
 use Rattle.cat_ref.specs.Reference.{described, is_map, part_or, named_in}
 use Rattle.cat_schema.specs.Forms.{may_be_there}
-use Rattle.cat_types.specs.Table.{Text}
+use Rattle.cat_table.specs.Table.{Text}
 use Rattle.cat_types.specs.declared.issue.Issue.{Issue}
 use Rattle.cat_types.specs.declared.parts.Parts.{Parts}
 use Rattle.cat_kinds.specs.Kinds.{answer, relations_of}

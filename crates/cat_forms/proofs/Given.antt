@@ -3,7 +3,7 @@ use Rattle.std.proofs.Common.{◌≡◌, ◌+◌, ◌≤◌, true, List, [], ◌
 use Rattle.std.specs.List.{AllByRecursion}
 use Rattle.std.proofs.lemmas.Bool.{and_parts, leb-true}
 use Rattle.cat_ref.specs.Names.{is_name}
-use Rattle.cat_types.specs.Table.{Text, get}
+use Rattle.cat_table.specs.Table.{Text, get}
 use Rattle.cat_types.specs.declared.input.Item.{Item}
 use Rattle.cat_types.specs.declared.input.Mutation.{Mutation}
 use Rattle.cat_types.specs.declared.input.Mutation.TheVariants.{Full, Delta}

@@ -5,7 +5,7 @@ use Rattle.std.specs.declared.option.Option.TheVariants.{None, Some}
 use Rattle.std.specs.declared.result.Result.{Result}
 use Rattle.std.specs.declared.result.Result.TheVariants.{Ok, Err}
 use Rattle.std.specs.Ordering.{nat_cmp}
-use Rattle.cat_types.specs.Table.{find}
+use Rattle.cat_table.specs.Table.{find}
 use Rattle.cat_lines.specs.Word.{Word, plain, memory, cut}
 use Rattle.cat_lines.specs.Runs.{line_after, after_lines}
 use Rattle.cat_lines.specs.declared.buffer.TheConstants.{LINE_LIMIT}

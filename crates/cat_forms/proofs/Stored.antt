@@ -3,9 +3,9 @@ use Rattle.std.proofs.Common.{◌≡◌, ℕ, Bool, true, false, cond, ◌||◌,
 use Rattle.std.specs.declared.option.Option.{Option}
 use Rattle.std.specs.declared.option.Option.TheVariants.{None, Some}
 use Rattle.std.specs.Option.{option_and_then}
-use Rattle.cat_types.specs.Table.{text_cmp, same_text, get, put}
+use Rattle.cat_table.specs.Table.{text_cmp, same_text, get, put}
 use Rattle.cat_types.specs.declared.parts.Parts.{Parts}
-use Rattle.cat_types.proofs.Tables.{text_total, text_antisymmetric, same_is, and_second, find-put_same, find-put_other, find-over}
+use Rattle.cat_table.proofs.Tables.{text_total, text_antisymmetric, same_is, and_second, find-put_same, find-put_other, find-over}
 use Rattle.cat_model.specs.Catalogue.{Ref, Tree, Rules, parts, document_after, frame, reheld, rerecorded}
 use Rattle.cat_model.specs.Formed.{FormRules, Formed, IsPartsOf, IsFormedEvent, AreFormedEvents}
 use Rattle.cat_model.specs.Settle.{IsSettleEvent, AreSettleEvents, try_settle, width, not_begun}

@@ -1,7 +1,7 @@
 -- What a stored document is.
 use Rattle.std.specs.Prelude.{◌≡◌, ◌<◌, ◌^◌}
 use Rattle.cat_tree.specs.Data.{Data}
-use Rattle.cat_types.specs.Table.{Text}
+use Rattle.cat_table.specs.Table.{Text}
 use Rattle.cat_types.specs.declared.parts.Parts.{Parts}
 use Rattle.cat_stitch.specs.Document.{document}
 use Rattle.cat_offers.specs.Forms.{IsProcessed}

@@ -30,7 +30,7 @@ ghost use Rattle.cat_transcript.specs.Program.{session_start};
 ghost use Rattle.cat_transcript.specs.Session.{session_after};
 ghost use Rattle.cat_tree.specs.Ask.{child_of};
 ghost use Rattle.cat_tree.specs.Data.{Data, words};
-ghost use Rattle.cat_types.specs.Table.{Text, get};
+ghost use Rattle.cat_table.specs.Table.{Text, get};
 ghost use Rattle.cat_types.specs.declared.input.Mutation.{Mutation};
 ghost use Rattle.cat_types.specs.declared.input.Offered.{Offered};
 ghost use Rattle.cat_types.specs.declared.parts.Parts.{Parts};

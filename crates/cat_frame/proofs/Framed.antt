@@ -5,7 +5,7 @@ use Rattle.cat_model.specs.declared.types.Leaving.{Leaving}
 use Rattle.cat_model.specs.declared.types.Orphan.{Orphan}
 use Rattle.cat_model.specs.declared.types.Record.{Record}
 use Rattle.cat_model.specs.declared.types.State.{State}
-use Rattle.cat_types.specs.Table.{Map, get, keys, place, tabulate, text_cmp}
+use Rattle.cat_table.specs.Table.{Map, get, keys, place, tabulate, text_cmp}
 use Rattle.cat_model.specs.Catalogue.{Ref, Rules, fresh_refs, held, orphan_after, record_after, rerecorded, same_option, work}
 
 pub rerecorded-is : (rules : Rules) (how : Leaving) (m n h : State) (fresh names places : List Ref) (records : Map Record) (orphans : Map Orphan) (number : ℕ)

@@ -2,3 +2,7 @@ pub mod Framed
 pub mod Marked
 pub mod Linking
 pub mod Partly
+pub mod Amending
+pub mod Recording
+pub mod Relinking
+pub mod Owned

@@ -8,18 +8,19 @@ use Rattle.std.specs.Ordering.{eq_by_cmp, is_eq, is_lt}
 use Rattle.std.specs.Option.{option_and_then}
 use Rattle.std.specs.List.{filter, flat_map, list_any}
 use Rattle.std.specs.List.Sorted.{IsStrictlySortedBy}
-use Rattle.std.specs.FinMap.Entries.{below_all, find-put, is_some-find, is_sorted, is_sorted-put}
+use Rattle.std.specs.FinMap.Entries.{below_all, is_some-find, is_sorted}
 use Rattle.std.proofs.lemmas.List.Folds.{list_any-append}
 use Rattle.std.proofs.lemmas.List.Kept.{IsStrictlySortedBy-filter}
-use Rattle.cat_types.specs.Table.{Text, find, get, keys, put, same_text, text_cmp}
+use Rattle.cat_table.specs.Table.{Text, find, get, keys, same_text, text_cmp}
 use Rattle.cat_types.specs.Relation.{relation_cmp}
 use Rattle.cat_types.specs.declared.relation.Relation.{Relation}
 use Rattle.cat_types.specs.declared.work.Output.{Output}
-use Rattle.cat_types.proofs.Tables.{text_total, text_antisymmetric, and_first, and_second, or_false_first, or_false_second, or_true, same_is, same_self}
+use Rattle.cat_table.proofs.Tables.{text_total, text_antisymmetric, and_first, and_second, or_false_first, or_false_second, or_true, same_is, same_self}
 use Rattle.cat_links.specs.Links.{Emitted, all_emitted, emitted_by, has, relations_of}
-use Rattle.cat_links.specs.Changes.{AreChanged, with_changes}
+use Rattle.cat_links.specs.Changes.{AreChanged, with_changes, with_emitter}
+use Rattle.cat_links.proofs.Counted.{emitted-with_emitter, sorted-with_emitter}
 use Rattle.cat_links.specs.declared.links.EmitChange.{EmitChange}
-use Rattle.cat_types.proofs.Orders.{has-filter, has-in_order, has_from_contains, in_order-rises, in_order_is, same_in_order}
+use Rattle.cat_table.proofs.Orders.{has-filter, has-in_order, has_from_contains, in_order-rises, in_order_is, same_in_order}
 use Rattle.cat_types.specs.Relations.{relation_total, relation_antisymmetric}
 use Rattle.cat_model.specs.declared.types.Orphan.{Orphan}
 use Rattle.cat_model.specs.declared.types.Record.{Record}
@@ -185,19 +186,11 @@ none_linked rules = record { in_order = tt; each = λ e. refl }
 
 sorted-with_changes : (m : Emitted) (cs : List EmitChange) → T (is_sorted text_cmp m) → T (is_sorted text_cmp (with_changes m cs))
 sorted-with_changes m [] s = s
-sorted-with_changes m (c ∷ cs) s = sorted-with_changes (put text_cmp c.emitter c.relations m) cs (is_sorted-put text_cmp text_total c.emitter c.relations m s)
+sorted-with_changes m (c ∷ cs) s = sorted-with_changes (with_emitter c.emitter c.relations m) cs (sorted-with_emitter c.emitter c.relations m s)
 
 with_changes-append : (m : Emitted) (cs ds : List EmitChange) → with_changes m (cs ++ ds) ≡ with_changes (with_changes m cs) ds
 with_changes-append m [] ds = refl
-with_changes-append m (c ∷ cs) ds = with_changes-append (put text_cmp c.emitter c.relations m) cs ds
-
--- what an emitter emits once another one, or it, emits other relations
-emitted-put : (m : Emitted) (k : Text) (v : List Relation) (e : Text) → emitted_by (put text_cmp k v m) e ≡ cond (same_text e k) v (emitted_by m e)
-emitted-put m k v e = ap (λ o. unwrap_or o []) (find-put text_cmp text_total e k v m) ∙ go (same_text e k)
-  where
-    go : (b : Bool) → unwrap_or (cond b (Some v) (find text_cmp e m)) [] ≡ cond b v (unwrap_or (find text_cmp e m) [])
-    go true = refl
-    go false = refl
+with_changes-append m (c ∷ cs) ds = with_changes-append (with_emitter c.emitter c.relations m) cs ds
 
 abbrev silent : Text → EmitChange
 silent e = record { emitter = e; relations = [] }
@@ -206,7 +199,7 @@ silent e = record { emitter = e; relations = [] }
 emitted-silent : (m : Emitted) (ks : List Text) (e : Text) → emitted_by (with_changes m (map silent ks)) e ≡ cond (list_any (same_text e) ks) [] (emitted_by m e)
 emitted-silent m [] e = refl
 emitted-silent m (k ∷ ks) e =
-    emitted-silent (put text_cmp k [] m) ks e ∙ (ap (λ l. cond (list_any (same_text e) ks) [] l) (emitted-put m k [] e) ∙ go (same_text e k) (list_any (same_text e) ks))
+    emitted-silent (with_emitter k [] m) ks e ∙ (ap (λ l. cond (list_any (same_text e) ks) [] l) (emitted-with_emitter k e [] m) ∙ go (same_text e k) (list_any (same_text e) ks))
   where
     go : (a b : Bool) → cond b [] (cond a [] (emitted_by m e)) ≡ cond (a || b) [] (emitted_by m e)
     go true true = refl
@@ -246,7 +239,7 @@ each_changed : (rules : Rules) (links : Emitted) (own : Option Ref) (m n : State
     → (e : Ref) → emitted_by (with_changes (with_changes links (left_changes m n)) (own_changes rules own n)) e ≡ emits rules e (output_of n.records e)
 each_changed rules links None m n linked leaves e = others rules links None m n linked leaves e refl
 each_changed rules links (Some r) m n linked leaves e =
-    emitted-put (with_changes links (left_changes m n)) r (emits rules r (output_of n.records r)) e ∙ go (same_text e r) refl
+    emitted-with_emitter r e (emits rules r (output_of n.records r)) (with_changes links (left_changes m n)) ∙ go (same_text e r) refl
   where
     go : (b : Bool) → same_text e r ≡ b → cond b (emits rules r (output_of n.records r)) (emitted_by (with_changes links (left_changes m n)) e) ≡ emits rules e (output_of n.records e)
     go true is = ap (λ q. emits rules q (output_of n.records q)) (sym (same_is text_total text_antisymmetric e r is))
@@ -314,7 +307,7 @@ module _ (rules : Rules) (links links' : Emitted) (changed : List Text) (own : O
   parts_at r (Some x) (Some y) f g o sort orphans alike = record_parts_are before after r x y alike (leaves.records r x y o f g)
 
   -- a reference that is no candidate keeps its parts
-  parts_stay : (r : Ref) → is_candidate changed own m n r ≡ false → parts rules m r ≡ parts rules n r
+  pub parts_stay : (r : Ref) → is_candidate changed own m n r ≡ false → parts rules m r ≡ parts rules n r
   parts_stay r h =
       let front : (list_any (same_text r) changed || is_own own r) ≡ false = or_false_first (list_any (same_text r) changed || is_own own r) _ h in
       let sort : same_sort m n r ≡ true = not_false _ (or_false_second (list_any (same_text r) changed || is_own own r) _ h) in
@@ -362,14 +355,13 @@ same_passing p xs ys rises rises' alike =
     go q true e = alike q e
     go q false e = refl
 
--- where nothing comes or leaves, it is enough to ask the reference itself and the changed sources, in order
-pub changed_alone : (rules : Rules) (links links' : Emitted) (changed : List Text) (m n : State) (r : Ref) → AreLinked rules links m → AreLinked rules links' n → AreChanged links links' changed
-    → LeavesOthers (Some r) m n → ((q : Ref) → is_some (get m.records q) ≡ held m.holders q) → ((q : Ref) → is_some (get n.records q) ≡ held n.holders q)
-    → ((q : Ref) → same_sort m n q ≡ true)
-    → (candidates : List Text) → IsStrictlySortedBy text_cmp candidates → ((q : Ref) → list_any (same_text q) candidates ≡ (list_any (same_text q) changed || same_text r q))
-    → filter (λ q. is_some (parts rules n q) && not (same_option rules.same_parts (parts rules m q) (parts rules n q))) candidates ≡ changed_refs rules m n
-changed_alone rules links links' changed m n r linked linked' are leaves held_m held_n sort candidates rises are_candidates =
-    same_passing changes candidates (known_refs n) rises (in_order-rises text_total text_antisymmetric (keys n.records ++ keys n.orphans)) (λ q h. asked q h ∙ sym (is_known q h))
+-- it is enough to ask references in order among which each candidate is
+pub changed_among : (rules : Rules) (links links' : Emitted) (changed : List Text) (own : Option Ref) (m n : State) → AreLinked rules links m → AreLinked rules links' n → AreChanged links links' changed
+    → LeavesOthers own m n → ((q : Ref) → is_some (get m.records q) ≡ held m.holders q) → ((q : Ref) → is_some (get n.records q) ≡ held n.holders q)
+    → (asked : List Text) → IsStrictlySortedBy text_cmp asked → ((q : Ref) → list_any (same_text q) asked ≡ false → is_candidate changed own m n q ≡ false)
+    → filter (λ q. is_some (parts rules n q) && not (same_option rules.same_parts (parts rules m q) (parts rules n q))) asked ≡ changed_refs rules m n
+changed_among rules links links' changed own m n linked linked' are leaves held_m held_n asked rises outside =
+    same_passing changes asked (known_refs n) rises (in_order-rises text_total text_antisymmetric (keys n.records ++ keys n.orphans)) (λ q h. is_asked q h ∙ sym (is_known q h))
   where
     changes : Ref → Bool
     changes q = is_some (parts rules n q) && not (same_option rules.same_parts (parts rules m q) (parts rules n q))
@@ -381,11 +373,19 @@ changed_alone rules links links' changed m n r linked linked' are leaves held_m 
         go true e = refl
         go false e = sym (ap is_some (unknown rules n q e)) ∙ and_first (is_some (parts rules n q)) _ h
 
-    asked : (q : Ref) → changes q ≡ true → list_any (same_text q) candidates ≡ true
-    asked q h = go (list_any (same_text q) candidates) refl
+    is_asked : (q : Ref) → changes q ≡ true → list_any (same_text q) asked ≡ true
+    is_asked q h = go (list_any (same_text q) asked) refl
       where
-        go : (b : Bool) → list_any (same_text q) candidates ≡ b → b ≡ true
+        go : (b : Bool) → list_any (same_text q) asked ≡ b → b ≡ true
         go true e = refl
-        go false e =
-            let out : is_candidate changed (Some r) m n q ≡ false = (λ i. (list_any (same_text q) changed || same_text r q) || not (sort q i)) ∙ (ap (λ b. b || false) (sym (are_candidates q) ∙ e)) in
-            sym (none_moved rules links links' changed (Some r) m n linked linked' are leaves held_m held_n q out) ∙ h
+        go false e = sym (none_moved rules links links' changed own m n linked linked' are leaves held_m held_n q (outside q e)) ∙ h
+
+-- where nothing comes or leaves, it is enough to ask the reference itself and the changed sources, in order
+pub changed_alone : (rules : Rules) (links links' : Emitted) (changed : List Text) (m n : State) (r : Ref) → AreLinked rules links m → AreLinked rules links' n → AreChanged links links' changed
+    → LeavesOthers (Some r) m n → ((q : Ref) → is_some (get m.records q) ≡ held m.holders q) → ((q : Ref) → is_some (get n.records q) ≡ held n.holders q)
+    → ((q : Ref) → same_sort m n q ≡ true)
+    → (candidates : List Text) → IsStrictlySortedBy text_cmp candidates → ((q : Ref) → list_any (same_text q) candidates ≡ (list_any (same_text q) changed || same_text r q))
+    → filter (λ q. is_some (parts rules n q) && not (same_option rules.same_parts (parts rules m q) (parts rules n q))) candidates ≡ changed_refs rules m n
+changed_alone rules links links' changed m n r linked linked' are leaves held_m held_n sort candidates rises are_candidates =
+    changed_among rules links links' changed (Some r) m n linked linked' are leaves held_m held_n candidates rises
+    (λ q e. (λ i. (list_any (same_text q) changed || same_text r q) || not (sort q i)) ∙ (ap (λ b. b || false) (sym (are_candidates q) ∙ e)))

@@ -11,8 +11,8 @@ use Rattle.cat_model.specs.declared.types.State.{State}
 use Rattle.cat_types.specs.declared.relation.Relation.{Relation}
 use Rattle.cat_types.specs.declared.parts.Parts.{Parts}
 use Rattle.cat_types.specs.declared.work.Output.{Output}
-use Rattle.cat_types.specs.Table.{Text, Map, find, get, keys, place, same_text, tabulate, text_cmp}
-use Rattle.cat_types.proofs.Tables.{text_total, text_antisymmetric, any_filter, find-tabulate, same_is, same_tabulated}
+use Rattle.cat_table.specs.Table.{Text, Map, find, get, keys, place, same_text, tabulate, text_cmp}
+use Rattle.cat_table.proofs.Tables.{text_total, text_antisymmetric, any_filter, find-tabulate, same_is, same_tabulated}
 use Rattle.cat_model.specs.Catalogue.{Ref, Rules, changed_refs, document_after, known_refs, mark_after, parts, parts_from, parts_of_orphan, parts_of_record, records_emit, remarked, same_option}
 use Rattle.cat_hold.specs.Parts.{has_parts}
 use Rattle.cat_frame.specs.Marks.{marked, with_parts}

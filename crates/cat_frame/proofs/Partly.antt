@@ -4,9 +4,9 @@ use Rattle.std.specs.declared.option.Option.{Option}
 use Rattle.std.specs.declared.option.Option.TheVariants.{None, Some}
 use Rattle.std.specs.List.{filter, list_any}
 use Rattle.std.specs.FinMap.Entries.{is_some-find}
-use Rattle.cat_types.specs.Table.{Text, get, keys, place, same_text, text_cmp}
+use Rattle.cat_table.specs.Table.{Text, get, keys, place, same_text, text_cmp}
 use Rattle.cat_types.specs.declared.work.Output.{Output}
-use Rattle.cat_types.proofs.Tables.{text_total, text_antisymmetric, find-tabulate}
+use Rattle.cat_table.proofs.Tables.{text_total, text_antisymmetric, find-tabulate}
 use Rattle.cat_links.specs.Changes.{AreChanged, with_changes}
 use Rattle.cat_links.specs.Links.{Emitted}
 use Rattle.cat_links.specs.declared.links.EmitChange.{EmitChange}
@@ -58,7 +58,7 @@ module _ (rules : Rules) (how : Leaving) (m n : State) where
   new r = record_after (drawn r) (get n.orphans r) (has_same r) (get n.records r)
 
   -- a reference's record, where it is held
-  record_at : (r : Ref) → get f.records r ≡ cond (held h.holders r) (Some (new r)) None
+  pub record_at : (r : Ref) → get f.records r ≡ cond (held h.holders r) (Some (new r)) None
   record_at r = find-tabulate text_total text_antisymmetric r (keys h.holders) (λ r. Some (new r)) ∙ ap (λ b. cond b (Some (new r)) None) (sym (is_some-find text_cmp r h.holders))
 
   -- exactly the references that are held after an event have records

@@ -5,7 +5,7 @@ use Rattle.std.specs.declared.option.Option.TheVariants.{None, Some}
 use Rattle.std.specs.Bool.{beq}
 use Rattle.std.specs.List.{filter, list_any}
 use Rattle.std.specs.FinMap.Entries.{is_sorted}
-use Rattle.cat_types.specs.Table.{Text, get, keys, same_text, text_cmp}
+use Rattle.cat_table.specs.Table.{Text, get, keys, same_text, text_cmp}
 use Rattle.cat_types.specs.declared.parts.Parts.{Parts}
 use Rattle.cat_types.specs.declared.work.Output.{Output}
 use Rattle.cat_links.specs.Links.{Emitted, emitted_by, relations_of}

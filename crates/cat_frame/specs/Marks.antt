@@ -4,7 +4,7 @@ use Rattle.std.specs.declared.option.Option.{Option}
 use Rattle.std.specs.declared.option.Option.TheVariants.{None, Some}
 use Rattle.std.specs.List.{list_any}
 use Rattle.cat_tree.specs.Data.{Data}
-use Rattle.cat_types.specs.Table.{Text, get, over, place, same_text, tabulate, text_cmp}
+use Rattle.cat_table.specs.Table.{Text, get, over, place, same_text, tabulate, text_cmp}
 use Rattle.cat_hold.specs.Parts.{has_parts}
 use Rattle.cat_model.specs.declared.types.State.{State}
 use Rattle.cat_model.specs.Catalogue.{known_refs}

@@ -1,7 +1,7 @@
 //! What emitters emit otherwise than before.
 ghost use Rattle.std.specs.Prelude.{◌≡◌, ◌++◌, IfOk, Option, is_none, map};
 ghost use Rattle.std.specs.List.{filter};
-ghost use Rattle.cat_types.specs.Table.{get, keys};
+ghost use Rattle.cat_table.specs.Table.{get, keys};
 ghost use Rattle.cat_links.specs.Changes.{AreChanged, with_changes};
 ghost use Rattle.cat_frame.specs.Linked.{AreLinked, AreRecorded, LeavesOthers, emit_changes, left_changes, own_changes};
 
@@ -10,7 +10,7 @@ use cat_hold::parts::emitted_by;
 use cat_links::links::{EmitChange, LinkPlan, Links};
 use cat_model::types::State;
 use cat_ref::reference::Ref;
-use cat_types::table::{Copied, Listing};
+use cat_table::listing::{Copied, Listing};
 use std::alloc::{AllocError, Global};
 
 // What the records that left no longer emit.

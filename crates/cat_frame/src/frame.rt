@@ -11,7 +11,7 @@ use cat_hold::layers::Layers;
 use cat_links::links::{LinkPlan, Links};
 use cat_model::types::{Leaving, State};
 use cat_ref::reference::Ref;
-use cat_types::table::Copied;
+use cat_table::listing::Copied;
 use std::alloc::{AllocError, Global};
 
 fn reheld_state(alloc: Global, n: &State) -> Result<State, AllocError>

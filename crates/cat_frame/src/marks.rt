@@ -1,7 +1,7 @@
 //! The marks and documents that follow from a change.
 ghost use Rattle.std.specs.Prelude.{◌≡◌, ◌+◌, ◌<◌, ◌≤◌, ◌^◌, ◌++◌, ◌&&◌, not, cond, IfOk, Option, Bool, is_none, is_some, option_map, option_and_then};
 ghost use Rattle.std.specs.List.{list_any};
-ghost use Rattle.cat_types.specs.Table.{find, get, keys, place, same_text, tabulate, text_cmp};
+ghost use Rattle.cat_table.specs.Table.{find, get, keys, place, same_text, tabulate, text_cmp};
 ghost use Rattle.cat_hold.specs.Parts.{has_parts};
 ghost use Rattle.cat_links.specs.Changes.{AreChanged};
 ghost use Rattle.cat_frame.specs.Linked.{AreLinked, AreRecorded, LeavesOthers, is_candidate, is_own, moved, same_sort};
@@ -16,8 +16,10 @@ use cat_hold::parts::{Present, has_parts, same_option_parts};
 use cat_links::links::{LinkPlan, Links};
 use cat_model::types::State;
 use cat_ref::reference::Ref;
+use cat_table::key::Key;
+use cat_table::listing::{Copied, Listing};
 use cat_types::node::Node;
-use cat_types::table::{Copied, Key, Listing, Table};
+use cat_types::table::Table;
 use std::alloc::{AllocError, Global};
 use std::cmp::Ordering;
 

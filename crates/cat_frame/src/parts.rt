@@ -1,6 +1,6 @@
 //! The parts of a reference's document, with the relations that the links give.
 ghost use Rattle.std.specs.Prelude.{◌≡◌, ◌++◌, IfOk, Option, option_map};
-ghost use Rattle.cat_types.specs.Table.{get};
+ghost use Rattle.cat_table.specs.Table.{get};
 ghost use Rattle.cat_links.specs.Links.{relations_of};
 ghost use Rattle.cat_frame.specs.Linked.{AreLinked, AreRecorded, linked_from, linked_orphan, linked_record};
 ghost use Rattle.cat_model.specs.Catalogue.{parts};
@@ -10,8 +10,8 @@ use cat_hold::parts::{append, relations_from};
 use cat_links::links::Links;
 use cat_model::types::{Orphan, Record, State};
 use cat_ref::reference::Ref;
+use cat_table::listing::{Copied, Listing};
 use cat_types::parts::Parts;
-use cat_types::table::{Copied, Listing};
 use std::alloc::{AllocError, Global};
 
 fn orphan_parts<L: Layers>(

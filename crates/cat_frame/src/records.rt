@@ -1,7 +1,7 @@
 //! The records and orphans that follow from a change.
 ghost use Rattle.std.specs.Prelude.{◌≡◌, ◌+◌, ◌<◌, ◌≤◌, ◌^◌, ◌++◌, ◌&&◌, IfOk, Option, Bool, is_none, is_some, length};
 ghost use Rattle.std.specs.declared.option.Option.TheVariants.{Some};
-ghost use Rattle.cat_types.specs.Table.{get, keys, place, text_cmp};
+ghost use Rattle.cat_table.specs.Table.{get, keys, place, text_cmp};
 ghost use Rattle.cat_model.specs.Catalogue.{fresh_refs, held, orphan_after, orphan_from_record, new_record, record_after, rerecorded, same_option, work};
 
 use cat_hold::build::{Gives, Passes, filtered, tabulated};
@@ -10,7 +10,9 @@ use cat_hold::layers::Layers;
 use cat_hold::parts::{append, same_work_of};
 use cat_model::types::{Leaving, Orphan, Record, State};
 use cat_ref::reference::Ref;
-use cat_types::table::{Copied, Key, Listing, Table};
+use cat_table::key::Key;
+use cat_table::listing::{Copied, Listing};
+use cat_types::table::Table;
 use std::alloc::{AllocError, Global};
 use std::cmp::Ordering;
 

@@ -1,7 +1,7 @@
 -- What is gathered over keys.
 use Rattle.std.proofs.Common.{◌≡◌, ℕ, ◌+◌, ◌<◌, List, ◌++◌, length, take}
 use Rattle.std.proofs.Math.ListN.{get_or}
-use Rattle.cat_types.specs.Table.{keys}
+use Rattle.cat_table.specs.Table.{keys}
 use Rattle.std.specs.List.{flat_map}
 use Rattle.cat_hold.proofs.Lists.{flat_keys_more}
 

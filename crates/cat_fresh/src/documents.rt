@@ -1,7 +1,7 @@
 //! The documents.
 ghost use Rattle.std.specs.Prelude.{◌≡◌, IfOk, Option};
 ghost use Rattle.std.specs.List.{flat_map};
-ghost use Rattle.cat_types.specs.Table.{get, keys};
+ghost use Rattle.cat_table.specs.Table.{get, keys};
 ghost use Rattle.cat_model.specs.Catalogue.{emits, emitted};
 ghost use Rattle.cat_fresh.specs.Afresh.{document_with, parts_with};
 ghost use Rattle.cat_model.specs.Fresh.{facts_of, fresh_docs, fresh_outputs, issues_of, number_at};
@@ -12,11 +12,12 @@ use cat_hold::layers::Layers;
 use cat_hold::parts::{append, relations_from};
 use cat_model::types::State;
 use cat_ref::reference::Ref;
+use cat_table::listing::{Copied, Listing};
 use cat_types::issue::Issue;
 use cat_types::node::Node;
 use cat_types::parts::Parts;
 use cat_types::relation::Relation;
-use cat_types::table::{Copied, Listing, Table};
+use cat_types::table::Table;
 use cat_types::work::{Outcome, Output, Work};
 use std::alloc::{AllocError, Global};
 

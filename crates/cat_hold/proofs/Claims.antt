@@ -6,8 +6,8 @@ use Rattle.std.specs.declared.option.Option.TheVariants.{None, Some}
 use Rattle.std.proofs.Math.ListN.{get_or}
 use Rattle.std.proofs.lemmas.List.{take-append-drop, drop_more}
 use Rattle.cat_model.specs.declared.types.Row.{Row}
-use Rattle.cat_types.specs.Table.{Text, find, first, put, same_text, text_cmp}
-use Rattle.cat_types.proofs.Tables.{text_total, text_antisymmetric, find-put_other, find-put_same, same_is}
+use Rattle.cat_table.specs.Table.{Text, find, first, put, same_text, text_cmp}
+use Rattle.cat_table.proofs.Tables.{text_total, text_antisymmetric, find-put_other, find-put_same, same_is}
 use Rattle.cat_model.specs.Catalogue.{Holders, Rows, claim, claims, held, hold, may_offer, row_at}
 use Rattle.cat_hold.specs.Claims.{IsTaken}
 

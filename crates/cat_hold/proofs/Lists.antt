@@ -6,7 +6,7 @@ use Rattle.std.proofs.lemmas.List.{take_more, map-append}
 use Rattle.std.proofs.lemmas.Grind.{flat_map-append}
 use Rattle.std.proofs.lemmas.List.Elements.{filter_map-append}
 use Rattle.std.specs.List.{cons_option, filter_map, flat_map}
-use Rattle.cat_types.specs.Table.{keys}
+use Rattle.cat_table.specs.Table.{keys}
 
 module _ {K X Y : Type 0} where
   pub filter_keys_more : (h : K → Option Y) (es : List (K × X)) (i : ℕ) (e : K × X) → i < length es → filter_map h (keys (take (i + 1) es)) ≡ filter_map h (keys (take i es)) ++ cons_option (h (get_or es i e).0) []

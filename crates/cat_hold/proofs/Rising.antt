@@ -8,7 +8,7 @@ use Rattle.std.specs.List.{AllByRecursion, cons_option, filter_map}
 use Rattle.std.specs.List.Sorted.{IsStrictlySortedBy}
 use Rattle.std.proofs.lemmas.List.{drop_more, take_more}
 use Rattle.std.proofs.lemmas.List.Elements.{filter_map-append}
-use Rattle.cat_types.specs.Table.{put, put_some, tabulate}
+use Rattle.cat_table.specs.Table.{put, put_some, tabulate}
 
 -- the entry of a key and a value, if there is one
 abbrev pub with_key : {K X : Type 0} → K → Option X → Option (K × X)

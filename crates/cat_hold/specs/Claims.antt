@@ -2,7 +2,7 @@
 use Rattle.std.specs.Prelude.{◌≡◌, ℕ, ◌-◌, ◌<◌, Bool, true, false, List, ◌∷◌, ◌++◌}
 use Rattle.std.specs.declared.option.Option.{Option}
 use Rattle.std.specs.declared.option.Option.TheVariants.{None, Some}
-use Rattle.cat_types.specs.Table.{first}
+use Rattle.cat_table.specs.Table.{first}
 use Rattle.cat_model.specs.Catalogue.{Holders, Rows, claim}
 
 -- ys is xs without the first a that passes

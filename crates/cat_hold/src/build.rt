@@ -2,9 +2,11 @@
 ghost use Rattle.std.specs.Prelude.{◌≡◌, true, IfOk};
 ghost use Rattle.std.specs.List.{filter};
 ghost use Rattle.std.specs.List.Sorted.{IsStrictlySortedBy};
-ghost use Rattle.cat_types.specs.Table.{first, tabulate};
+ghost use Rattle.cat_table.specs.Table.{first, tabulate};
 
-use cat_types::table::{Copied, Key, Listing, Table};
+use cat_table::key::Key;
+use cat_table::listing::{Copied, Listing};
+use cat_types::table::Table;
 use std::alloc::{AllocError, Global};
 use std::cmp::Ordering;
 

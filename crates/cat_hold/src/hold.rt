@@ -3,14 +3,15 @@ ghost use Rattle.std.specs.Prelude.{◌≡◌, IfOk, ℕ, Bool, Option, option_m
 ghost use Rattle.std.specs.Ordering.{nat_cmp};
 ghost use Rattle.std.specs.declared.option.Option.TheVariants.{None, Some};
 ghost use Rattle.std.specs.List.{cons_option, filter_map};
-ghost use Rattle.cat_types.specs.Table.{find, get, keys};
+ghost use Rattle.cat_table.specs.Table.{find, get, keys};
 ghost use Rattle.cat_hold.specs.Claims.{HasClaimed, IsNext};
 ghost use Rattle.cat_model.specs.Catalogue.{claim, claims, held, hold, holding, holding_arrivals, may_offer, rehold, row_at, standing, with_origin_held};
 
 use crate::build::{Gives, Passes, first_of, tabulated};
 use cat_model::types::{Origin, Row};
 use cat_ref::reference::Ref;
-use cat_types::table::{Copied, Table};
+use cat_table::listing::Copied;
+use cat_types::table::Table;
 use std::alloc::{AllocError, Global};
 
 /// Whether a row holds the reference.

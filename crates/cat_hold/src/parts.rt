@@ -1,7 +1,7 @@
 //! Work and parts of a reference.
 ghost use Rattle.std.specs.Prelude.{◌≡◌, ◌++◌, IfOk, Option, Bool, option_map, is_ok, if◌then◌else◌};
 ghost use Rattle.std.specs.declared.option.Option.TheVariants.{Some};
-ghost use Rattle.cat_types.specs.Table.{get, keys, same_text, text_cmp};
+ghost use Rattle.cat_table.specs.Table.{get, keys, same_text, text_cmp};
 ghost use Rattle.cat_hold.specs.Parts.{has_parts};
 ghost use Rattle.cat_model.specs.Catalogue.{emits, from_source, output_of, same_option, work};
 
@@ -10,9 +10,11 @@ use crate::hold::row_of;
 use crate::layers::Layers;
 use cat_model::types::{Record, State};
 use cat_ref::reference::Ref;
+use cat_table::key::Key;
+use cat_table::listing::{Copied, Listing};
 use cat_types::parts::Parts;
 use cat_types::relation::Relation;
-use cat_types::table::{Copied, Key, Listing, Table};
+use cat_types::table::Table;
 use cat_types::work::Work;
 use std::alloc::{AllocError, Global};
 use std::cmp::Ordering;

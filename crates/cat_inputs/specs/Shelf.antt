@@ -4,21 +4,21 @@ use Rattle.cat_tree.specs.Data.{Data, null, flag, whole, words, list, dict, Item
 use Rattle.cat_tree.specs.declared.read.TreeFault.{TreeFault}
 use Rattle.cat_ref.specs.Reference.{described, is_map}
 use Rattle.cat_ref.specs.declared.fault.RefFault.{RefFault}
-use Rattle.cat_types.specs.Table.{Text}
+use Rattle.cat_table.specs.Table.{Text}
 use Rattle.cat_inputs.specs.declared.fault.ShelfFault.{ShelfFault}
 use Rattle.cat_inputs.specs.declared.fault.ShelfFault.TheVariants.{Shape, Deep}
 use Rattle.cat_inputs.specs.declared.shelf.Listed.{Listed}
 use Rattle.cat_inputs.specs.Body.{and_then, onto, each_from}
 use Rattle.cat_inputs.specs.Faults.{text_fault, unlisted}
 use Rattle.cat_inputs.specs.Inputs.{first_deep}
-use Rattle.cat_inputs.specs.Reading.{tree_reading}
+use Rattle.cat_inputs.specs.Reading.{text_tree}
 
 -- the members of a list of objects
 abbrev pub objects_from : Items → Result (List Data) ShelfFault
 objects_from no_items = Ok []
 objects_from (item d ds) = onto (if is_map d then Ok d else Err Shape) (objects_from ds)
 
--- the descriptors of a shelf text: an object, or the objects of a list
+-- the descriptors of a shelf text: an object, or the objects of a list; those of block YAML are a list
 abbrev pub descriptors : Data → Result (List Data) ShelfFault
 descriptors null = Err Shape
 descriptors (flag b) = Err Shape
@@ -51,6 +51,6 @@ abbrev pub shelf_read : Result Data TreeFault → Result (List Listed) ShelfFaul
 shelf_read (Ok d) = shelf_from d
 shelf_read (Err fault) = Err (text_fault fault)
 
--- what the bytes list, or the first refusal that holds
+-- what the bytes list, in JSON or in block YAML, or the first refusal that holds
 unfoldable pub shelf_reading : List ℕ → Result (List Listed) ShelfFault
-shelf_reading bytes = shelf_read (tree_reading bytes)
+shelf_reading bytes = shelf_read (text_tree bytes)

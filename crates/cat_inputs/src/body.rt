@@ -9,6 +9,7 @@ ghost use Rattle.cat_inputs.specs.Lent.{entry_of, body_of};
 
 use crate::fault::{InputFault, Place};
 use crate::form::Form;
+use cat_ref::reference::text_in;
 use cat_tree::ask::child;
 use cat_tree::tree::Tree;
 use std::alloc::Global;
@@ -45,15 +46,6 @@ fn serial_in(field: Option<&Tree>) -> Option<u64>
                 None
             }
         }
-        _ => None,
-    }
-}
-
-fn text_in(tree: &Tree) -> Option<&str>
-    ensures { option_copied result ≡ text_in (data_of tree.now) }
-{
-    match tree {
-        Tree::Words(text) => Some(text.as_str()),
         _ => None,
     }
 }

@@ -57,11 +57,11 @@ pub enum InputFault {
 /// Why a shelf text lists no descriptors: the first of these that holds, in this order.
 #[derive(Clone, Copy, Debug, Drop, PartialEq, Eq)]
 pub enum ShelfFault {
-    /// The text is no JSON.
+    /// The text has no reading, in JSON or in block YAML.
     Syntax,
     /// The text has a number that is no integer of 64 bits.
     Fraction,
-    /// The text is neither an object nor a list of objects.
+    /// The text is neither an object nor a list of objects, or has a document that is none.
     Shape,
     /// This descriptor is over 100 levels deep.
     Deep(usize),

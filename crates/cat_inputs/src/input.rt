@@ -12,9 +12,9 @@ use crate::form::Form;
 use crate::refs::{first_deep, items_of, refs_of, repeated};
 use crate::text::read_tree;
 use cat_ref::reference::Ref;
+use cat_table::listing::Listing;
 use cat_tree::tree::Tree;
 use cat_types::input::{Item, Mutation};
-use cat_types::table::Listing;
 use std::alloc::Global;
 
 const MOST_ITEMS: usize = 100_000;

@@ -1,9 +1,9 @@
 //! Reads what comes in from outside: the JSON bodies of a provider's mutations, and the texts of Location files on the
-//! shelf.
+//! shelf, in JSON or in block YAML.
 //!
-//! It stands on cat_tree, cat_ref and cat_types. It promises that each answer is the one that a definition computes from
-//! the bytes: the mutation or the list of descriptors, or the first refusal that holds. A mutation that is read has all
-//! that the catalogue asks of one.
+//! It stands on cat_tree, cat_ref, cat_types and cat_yaml. It promises that each answer is the one that a definition
+//! computes from the bytes: the mutation or the list of descriptors, or the first refusal that holds. A mutation that is
+//! read has all that the catalogue asks of one.
 #![tactic(auto)]
 
 pub mod body;

@@ -47,7 +47,7 @@ fn item_at(alloc: Global, place: usize, entry: &Entry<'_>) -> Result<Item, Input
     match ref_of(alloc, entry.entity) {
         Ok(reference) => {
             let key = key_of(alloc, entry.key)?;
-            let tree = Node::new(copy(alloc, entry.entity)?);
+            let tree = Node::new(alloc, copy(alloc, entry.entity)?)?;
             Ok(Item {
                 reference,
                 key,

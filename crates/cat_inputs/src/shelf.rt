@@ -8,12 +8,12 @@ ghost use Rattle.cat_inputs.specs.Shelf as spec;
 
 use crate::fault::{ShelfFault, text_fault, unlisted};
 use crate::refs::is_deep;
-use crate::text::read_tree;
+use crate::text::read_text;
 use cat_ref::reference::{Ref, ref_of};
+use cat_table::listing::Listing;
 use cat_tree::clone::copy;
 use cat_tree::tree::Tree;
 use cat_types::node::Node;
-use cat_types::table::Listing;
 use std::alloc::Global;
 
 /// A descriptor of a shelf text, under the reference that it names.
@@ -83,7 +83,7 @@ fn listed_at(alloc: Global, place: usize, tree: &Tree) -> Result<Listed, ShelfFa
 {
     match ref_of(alloc, tree) {
         Ok(reference) => {
-            let tree = Node::new(copy(alloc, tree)?);
+            let tree = Node::new(alloc, copy(alloc, tree)?)?;
             Ok(Listed { reference, tree })
         }
         Err(fault) => Err(unlisted(place, fault)),
@@ -116,15 +116,17 @@ fn shelf_from(alloc: Global, tree: &Tree) -> Result<Listing<Listed>, ShelfFault>
     }
 }
 
-/// The descriptors of a shelf text, which is a JSON object (RFC 8259) or a list of them, each under the reference that it
-/// names. The answer is the first of the faults of `ShelfFault` that holds, in their order; a place counts from 0 over the
-/// list, and an object alone stands at 0.
+/// The descriptors of a shelf text, each under the reference that it names. Where the first byte that is no space, tab, CR
+/// or LF is `{` or `[`, the text is a JSON object (RFC 8259) or a list of them; else it is in this project's profile of
+/// block YAML, and each of its documents is an object. The answer is the first of the faults of `ShelfFault` that holds, in
+/// their order; a place counts from 0 over the list or the documents, and an object alone stands at 0. Takes memory for the
+/// descriptors.
 #[tactic(auto, unfolding(crate::specs::Shelf::shelf_reading))]
 pub fn shelf_list(alloc: Global, bytes: &[u8]) -> Result<Listing<Listed>, ShelfFault>
     ensures ok { IfOk result (λ v. spec.shelf_reading bytes.now ≡ Ok v) }
     ensures err { IfErr result (λ e. (spec.shelf_reading bytes.now ≡ Err e) ⊎ (e ≡ ShelfFault.NoMemory)) }
 {
-    match read_tree(alloc, bytes) {
+    match read_text(alloc, bytes) {
         Ok(tree) => shelf_from(alloc, &tree),
         Err(fault) => Err(text_fault(fault)),
     }

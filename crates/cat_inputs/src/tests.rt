@@ -325,3 +325,61 @@ fn lists_descriptors(rt: HostRuntime) -> Result<(), Fail> {
     }
     Ok(())
 }
+
+const TWO_DOCUMENTS: &str =
+    "apiVersion: backstage.io/v1alpha1\nkind: Component\nmetadata:\n  name: web # main\n  tags: [java, 'c++']\nspec:\n  type: service\n  lifecycle: production\n  owner: a\n---\nkind: Group\nmetadata:\n  name: a\n";
+
+#[test]
+fn lists_documents(rt: HostRuntime) -> Result<(), Fail> {
+    let documents = shelf_list(rt.alloc(), TWO_DOCUMENTS.as_bytes())?;
+    assert_eq!(rt; documents.len(), 2);
+    for (i, listed) in documents.as_slice().iter().enumerate() {
+        assert_eq!(rt;
+            listed.reference.as_str(),
+            ["component:default/web", "group:default/a"][i % 2]
+        );
+    }
+    let json = shelf_list(
+        rt.alloc(),
+        b" \t\r\n[{\"kind\":\"K\",\"metadata\":{\"name\":\"A\"}}]",
+    )?;
+    assert_eq!(rt; json.len(), 1);
+    Ok(())
+}
+
+#[test]
+fn refuses_documents(rt: HostRuntime) -> Result<(), Fail> {
+    let cases: [(&str, ShelfFault); 12] = [
+        (" \t\r\n", ShelfFault::Syntax),
+        ("# none\n---\n", ShelfFault::Syntax),
+        ("kind: Group\nmetadata: {name: a}\n", ShelfFault::Syntax),
+        ("kind: K\nkind: K\n", ShelfFault::Syntax),
+        ("a: 1.5\n", ShelfFault::Fraction),
+        ("a\n---\nb: 18446744073709551616\n", ShelfFault::Fraction),
+        ("a: '1.5'\n", ShelfFault::NoRef(0, RefFault::Shape)),
+        ("a\n", ShelfFault::Shape),
+        ("- kind: K\n  metadata:\n    name: a\n", ShelfFault::Shape),
+        ("kind: K\n---\n- a\n", ShelfFault::Shape),
+        (
+            "kind: K\nmetadata:\n  name: a\n---\nkind: K\nmetadata:\n  name: '-'\n",
+            ShelfFault::NoRef(1, RefFault::BadName),
+        ),
+        (
+            "[{\"kind\":\"K\",\"metadata\":{\"name\":\"a\"}}]\n---\n",
+            ShelfFault::Syntax,
+        ),
+    ];
+    for (text, fault) in cases.iter() {
+        assert_eq!(rt;
+            shelf_list(rt.alloc(), text.as_bytes()).err(),
+            Some(*fault),
+            "{text}"
+        );
+    }
+    let deeper = repeated(rt.alloc(), "kind: K\n---\na:\n  ", "- ", 100, "b\n")?;
+    assert_eq!(rt;
+        shelf_list(rt.alloc(), deeper.as_bytes()).err(),
+        Some(ShelfFault::Deep(1))
+    );
+    Ok(())
+}

@@ -1,3 +1,3 @@
-pub mod Names
 pub mod Orders
 pub mod Reverses
+pub mod Whole

@@ -1,3 +1,3 @@
-pub mod Fields
 pub mod Mentions
 pub mod Kinds
+pub mod Whole

@@ -1,12 +1,13 @@
 -- The references that the fields of an entity name, as they stand in its tree.
-use Rattle.std.specs.Prelude.{ℕ, suc, List, [], ◌∷◌, ◌++◌, Bool, false, Option, Some, None, if◌then◌else◌, option_and_then, bytes_eq, codes}
-use Rattle.std.specs.List.{list_any}
+use Rattle.std.specs.Prelude.{ℕ, suc, List, [], ◌∷◌, ◌++◌, Bool, false, Option, Some, None, if◌then◌else◌, option_and_then, codes}
 use Rattle.std.specs.Option.{option_map_or}
 use Rattle.cat_tree.specs.Data.{Data, null, flag, whole, words, list, dict, Items, no_items, item}
 use Rattle.cat_tree.specs.Ask.{child_of}
-use Rattle.cat_ref.specs.Reference.{text_in, text_at}
-use Rattle.cat_types.specs.Table.{Text}
-use Rattle.cat_kinds.specs.Fields.{FieldRow, field_rows, row_of}
+use Rattle.cat_ref.specs.Reference.{text_in}
+use Rattle.cat_table.specs.Table.{Text}
+use Rattle.cat_schema.specs.Fields.{FieldRow, field_rows, row_of, has_field}
+use Rattle.cat_schema.specs.Rules.{kind_of}
+use Rattle.cat_schema.specs.declared.kind.Kind.{Kind}
 use Rattle.cat_kinds.specs.declared.mention.Mention.{Mention as Lent}
 
 -- a text in a reference field, with its position where the field is a list
@@ -19,14 +20,10 @@ pub record Mention : Type 0 where
 abbrev pub mention_of : Lent → Mention
 mention_of m = record { field = row_of m.field.now; position = m.position; text = m.text.now }
 
--- the kind, where it is a text
-unfoldable pub kind_of : Data → Option Text
-kind_of d = text_at (child_of (codes "kind") d)
-
--- entities of this kind have the field
-abbrev pub fits : Option Text → FieldRow → Bool
+-- entities of this kind, if it is one, have the field
+abbrev pub fits : Option Kind → FieldRow → Bool
 fits None row = false
-fits (Some kind) row = list_any (λ name. bytes_eq name kind) row.kinds
+fits (Some k) row = has_field k row
 
 -- the mention of a text, and none where there is no text
 abbrev pub as_mention : FieldRow → Option ℕ → Option Text → List Mention

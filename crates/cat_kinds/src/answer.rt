@@ -4,14 +4,15 @@ ghost use Rattle.cat_tree.specs.View.{data_of};
 ghost use Rattle.cat_kinds.specs.Mentions.{mention_of};
 ghost use Rattle.cat_kinds.specs.Kinds as spec;
 
-use crate::mention::{Mention, mentions, text_at};
+use crate::mention::{Mention, mentions};
 use cat_ref::fault::RefFault;
-use cat_ref::reference::{Ref, parse};
+use cat_ref::reference::{Ref, parse, text_at};
+use cat_table::key::Key;
+use cat_table::listing::Listing;
 use cat_tree::ask::grandchild;
 use cat_tree::text::Text;
 use cat_tree::tree::Tree;
 use cat_types::relation::{RelKind, Relation};
-use cat_types::table::{Key, Listing};
 use std::alloc::{AllocError, Global};
 use std::cmp::Ordering;
 

@@ -1,15 +1,15 @@
 //! The references that the fields of an entity name, as they stand in its tree.
-ghost use Rattle.std.specs.Prelude.{◌≡◌, ◌++◌, Some, map, option_map, bytes_eq, IfOk, OnOk};
-ghost use Rattle.std.specs.List.{list_any};
-ghost use Rattle.std.specs.Option.{option_copied};
+ghost use Rattle.std.specs.Prelude.{◌≡◌, ◌++◌, Some, map, IfOk, OnOk};
 ghost use Rattle.cat_tree.specs.Data.{items_of};
 ghost use Rattle.cat_tree.specs.View.{data_of};
-ghost use Rattle.cat_ref.specs.Reference.{text_in, text_at};
-ghost use Rattle.cat_kinds.specs.Fields.{row_of};
+ghost use Rattle.cat_schema.specs.Fields.{row_of};
 ghost use Rattle.cat_kinds.specs.Mentions as spec;
 
-use crate::field::{RefField, fields};
-use cat_tree::ask::{child, grandchild};
+use cat_ref::reference::text_in;
+use cat_schema::field::{RefField, fields, has_field};
+use cat_schema::kind::Kind;
+use cat_schema::rules::kind_of;
+use cat_tree::ask::grandchild;
 use cat_tree::tree::Tree;
 use std::alloc::{AllocError, Global};
 
@@ -21,46 +21,14 @@ pub struct Mention<'a> {
     pub text: &'a str,
 }
 
-fn text_in(tree: &Tree) -> Option<&str>
-    ensures { option_copied result ≡ text_in (data_of tree.now) }
-{
-    match tree {
-        Tree::Words(text) => Some(text.as_str()),
-        _ => None,
-    }
-}
-
-/// The text that a part is, where there is one and it is a text.
-pub fn text_at<'a>(part: Option<&'a Tree>) -> Option<&'a str>
-    ensures { option_copied result ≡ text_at (option_map (λ t. data_of t.now) part.entry) }
-{
-    match part {
-        Some(tree) => text_in(tree),
-        None => None,
-    }
-}
-
-fn has_name(names: &[&str], wanted: &str) -> bool
-    ensures { result ≡ list_any (λ name. bytes_eq name.now wanted.now) names.now }
-{
-    names.iter().any(|name| *name == wanted)
-}
-
-// Whether entities of this kind have the field.
-fn fits(kind: Option<&str>, field: &RefField) -> bool
-    ensures { result ≡ spec.fits (option_copied kind.entry) (row_of field.now) }
+// Whether entities of this kind, if it is one, have the field.
+fn fits(kind: Option<Kind>, field: &RefField) -> bool
+    ensures { result ≡ spec.fits kind (row_of field.now) }
 {
     match kind {
-        Some(kind) => has_name(field.kinds, kind),
+        Some(kind) => has_field(kind, field),
         None => false,
     }
-}
-
-#[tactic(auto, unfolding(crate::specs::Mentions::kind_of))]
-fn has_field(tree: &Tree, field: &RefField) -> bool
-    ensures { result ≡ spec.fits (spec.kind_of (data_of tree.now)) (row_of field.now) }
-{
-    fits(text_at(child(tree, "kind")), field)
 }
 
 // What the tree mentions, unless it is no text.
@@ -144,7 +112,7 @@ fn push_fitting<'a>(
     ensures { OnOk result (map spec.mention_of found.new.items
         ≡ map spec.mention_of found.old.items ++ spec.mentions_by (data_of tree.now) (row_of field.now)) }
 {
-    if has_field(tree, field) {
+    if fits(kind_of(tree), field) {
         push_field(found, field, tree)
     } else {
         Ok(())

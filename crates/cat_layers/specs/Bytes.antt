@@ -2,7 +2,7 @@
 use Rattle.std.specs.Prelude.{ℕ, ◌+◌, ◌^◌, length, min}
 use Rattle.std.specs.List.{sum_by}
 use Rattle.cat_tree.specs.Text.{text_of}
-use Rattle.cat_types.specs.Table.{Text, Map}
+use Rattle.cat_table.specs.Table.{Text, Map}
 use Rattle.cat_types.specs.declared.input.Offered.{Offered}
 use Rattle.cat_model.specs.declared.types.ProviderInputs.{ProviderInputs}
 

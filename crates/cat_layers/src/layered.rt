@@ -11,11 +11,12 @@ use cat_process::result::result;
 use cat_ref::reference::Ref;
 use cat_same::same::{parts_alike, works_alike};
 use cat_stitch::document::document;
+use cat_table::listing::Listing;
 use cat_tree::text::Text;
 use cat_types::node::Node;
 use cat_types::parts::Parts;
 use cat_types::relation::Relation;
-use cat_types::table::{Listing, Table};
+use cat_types::table::Table;
 use cat_types::work::{Content, Outcome, Work};
 use std::alloc::{AllocError, Global};
 

@@ -1,3 +1,3 @@
 pub mod Counted
-pub mod Parts
 pub mod Changed
+pub mod Left

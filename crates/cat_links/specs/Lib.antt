@@ -1,3 +1,4 @@
 pub mod Links
 pub mod Counts
 pub mod Changes
+pub mod Left

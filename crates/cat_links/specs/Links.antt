@@ -1,11 +1,11 @@
 -- What each emitter emits, and the relations of each source.
-use Rattle.std.specs.Prelude.{Bool, true, false, not, ◌&&◌, List, [], ◌∷◌, map, unwrap_or}
+use Rattle.std.specs.Prelude.{Bool, true, false, not, cond, List, [], ◌∷◌, map, unwrap_or}
 use Rattle.std.specs.List.{filter, flat_map, list_any}
 use Rattle.std.specs.Ordering.{eq_by_cmp}
 use Rattle.cat_types.specs.declared.relation.Relation.{Relation}
 use Rattle.cat_types.specs.Relation.{relation_cmp}
-use Rattle.cat_types.specs.Table.{Text, Map, get, same_text}
-use Rattle.cat_types.specs.Order.{in_order}
+use Rattle.cat_table.specs.Table.{Text, Map, get, same_text}
+use Rattle.cat_table.specs.Order.{in_order}
 
 -- the relations that each emitter emits, in order of emitter
 abbrev pub Emitted : Type 0
@@ -39,13 +39,11 @@ only_in xs ys = filter (λ x. not (has x ys)) (in_order relation_cmp xs)
 abbrev pub sources : List Relation → List Text
 sources relations = map (λ x. x.source) relations
 
--- whether two lists have the same relations at the same places
-abbrev pub same_relations : List Relation → List Relation → Bool
-same_relations [] [] = true
-same_relations [] (y ∷ ys) = false
-same_relations (x ∷ xs) [] = false
-same_relations (x ∷ xs) (y ∷ ys) = eq_by_cmp relation_cmp x y && same_relations xs ys
+-- whether a list has no items
+abbrev pub is_empty : {A : Type 0} → List A → Bool
+is_empty [] = true
+is_empty (x ∷ xs) = false
 
--- whether the relations of a source differ between two tables
-abbrev pub differs : Emitted → Emitted → Text → Bool
-differs before after source = not (same_relations (relations_of before source) (relations_of after source))
+-- whether a relation is emitted in one of two tables alone
+abbrev pub comes_or_goes : Emitted → Emitted → Relation → Bool
+comes_or_goes before after x = cond (has x (all_emitted before)) (not (has x (all_emitted after))) (has x (all_emitted after))

@@ -3,13 +3,13 @@ ghost use Rattle.std.specs.Prelude.{◌≡◌, not, IfOk};
 ghost use Rattle.std.specs.List.{filter};
 ghost use Rattle.std.specs.List.Sorted.{IsStrictlySortedBy};
 ghost use Rattle.cat_types.specs.Relation.{relation_cmp};
-ghost use Rattle.cat_types.specs.Order.{in_order};
+ghost use Rattle.cat_table.specs.Order.{in_order};
 ghost use Rattle.cat_links.specs.Links.{has, only_in};
 
-use crate::order::in_order;
-use crate::rows::append;
+use crate::order::{append, in_order};
+use cat_table::key::Key;
+use cat_table::listing::Copied;
 use cat_types::relation::Relation;
-use cat_types::table::{Copied, Key};
 use std::alloc::{AllocError, Global};
 
 /// What only the later of two lists has, and what only the earlier has, in order, each once.

@@ -1,7 +1,7 @@
 use crate::links::{EmitChange, Links};
 use cat_ref::reference::{Ref, parse};
+use cat_table::listing::Listing;
 use cat_types::relation::{RelKind, Relation};
-use cat_types::table::Listing;
 use std::alloc::Global;
 use std::test::Fail;
 
@@ -42,7 +42,7 @@ fn changed_by(alloc: Global, links: &mut Links, change: EmitChange) -> Result<St
 #[test]
 fn lists_the_sources_that_change(rt: HostRuntime) -> Result<(), Fail> {
     let alloc = rt.alloc();
-    let mut links = Links::empty(alloc);
+    let mut links = Links::empty();
     let first = change(alloc, "api:a", &[("api:b", "api:x"), ("api:a", "api:x")])?;
     assert_eq!(rt;
         changed_by(alloc, &mut links, first)?.as_str(),

@@ -10,8 +10,8 @@ use Rattle.std.specs.Ordering.{eq_by_cmp, is_eq, is_lt, ordering_reverse}
 use Rattle.std.specs.Cmp.{IsTotalOrder, Equal-is}
 use Rattle.std.specs.FinMap.{IsAntisymmetric}
 use Rattle.std.specs.FinMap.Entries.{below_all, find, find-append, find-where_key, is_sorted, is_sorted-where_key, same_entries, where_key}
-use Rattle.cat_types.specs.Table.{keys, over}
-use Rattle.cat_types.proofs.Tables.{and_first, and_second, find-over, is_sorted-tabulate, same_is}
+use Rattle.cat_table.specs.Table.{keys, over}
+use Rattle.cat_table.proofs.Tables.{and_first, and_second, find-over, is_sorted-tabulate, same_is}
 
 -- a test that holds
 pub holds : (b : Bool) → T b → b ≡ true

@@ -6,8 +6,8 @@ use Rattle.std.specs.declared.option.Option.TheVariants.{None, Some}
 use Rattle.std.specs.Option.{option_and_then}
 use Rattle.std.specs.List.{remove}
 use Rattle.std.specs.FinMap.Entries.{find-put, is_sorted, is_sorted-put}
-use Rattle.cat_types.specs.Table.{Map, Text, get, put, same_text, text_cmp}
-use Rattle.cat_types.proofs.Tables.{find-over, same_is, same_self, text_antisymmetric, text_total}
+use Rattle.cat_table.specs.Table.{Map, Text, get, put, same_text, text_cmp}
+use Rattle.cat_table.proofs.Tables.{find-over, same_is, same_self, text_antisymmetric, text_total}
 use Rattle.cat_marks.specs.declared.answers.Marked.{Marked}
 use Rattle.cat_marks.specs.Marks.{AreMarks, HasNoneAfter, IsNextAfter, MarkSet, with_mark, without, without_mark}
 use Rattle.cat_marks.specs.Places.{IsPlaceOf}

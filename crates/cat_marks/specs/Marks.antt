@@ -3,7 +3,7 @@ use Rattle.std.specs.Prelude.{◌≡◌, ℕ, ◌+◌, ◌-◌, ◌<◌, ◌≤�
 use Rattle.std.specs.declared.option.Option.{Option}
 use Rattle.std.specs.declared.option.Option.TheVariants.{None, Some}
 use Rattle.std.specs.FinMap.Entries.{is_sorted}
-use Rattle.cat_types.specs.Table.{Map, Text, get, over, put, same_text, text_cmp}
+use Rattle.cat_table.specs.Table.{Map, Text, get, over, put, same_text, text_cmp}
 use Rattle.cat_marks.specs.declared.answers.Putting.{Putting}
 use Rattle.cat_marks.specs.declared.answers.Putting.TheVariants.{Counted, Late}
 

@@ -1,7 +1,7 @@
 -- Places in a list of marks.
 use Rattle.std.specs.Prelude.{◌≡◌, ℕ, ◌<◌, IsTrue, length, slice_index_or}
 use Rattle.std.specs.declared.option.Option.TheVariants.{Some}
-use Rattle.cat_types.specs.Table.{Map, Text, get, same_text}
+use Rattle.cat_table.specs.Table.{Map, Text, get, same_text}
 
 -- the mark of the reference stands at this place
 pub record IsPlaceOf (marks : Map ℕ) (r : Text) (place : ℕ) : Type 0 where

@@ -1,6 +1,6 @@
 //! The marks of a catalogue.
 ghost use Rattle.std.specs.Prelude.{◌≡◌, ◌+◌, ◌<◌, ◌≤◌, ◌^◌, ◌↔◌, None, Some, OnOk, OnErr, IsErrOf, MatchOption, length};
-ghost use Rattle.cat_types.specs.Table.{get};
+ghost use Rattle.cat_table.specs.Table.{get};
 ghost use Rattle.cat_marks.specs.Marks.{AreMarks, HasNoneAfter, IsNextAfter, after_put, no_marks, put_answer, with_mark, with_room, without_mark};
 
 use crate::answers::{MarkFault, Marked, Putting};

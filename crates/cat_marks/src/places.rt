@@ -1,13 +1,13 @@
 //! Places in a vector of marks that stand in order of their references.
 ghost use Rattle.std.specs.Prelude.{◌≡◌, ◌+◌, ◌<◌, ◌≤◌, None, T, MatchOption, vec_len, vec_capacity};
 ghost use Rattle.std.specs.FinMap.Entries.{is_sorted};
-ghost use Rattle.cat_types.specs.Table.{get, put, text_cmp};
+ghost use Rattle.cat_table.specs.Table.{get, put, text_cmp};
 ghost use Rattle.cat_marks.specs.Marks.{HasNoneAfter, IsNextAfter, without};
 ghost use Rattle.cat_marks.specs.Places.{IsPlaceOf};
 
 use crate::answers::Marked;
 use cat_ref::reference::Ref;
-use cat_types::table::Key;
+use cat_table::key::Key;
 use std::cmp::Ordering;
 
 // Where the mark of a reference stands, if it has one.

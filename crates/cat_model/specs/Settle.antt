@@ -7,7 +7,7 @@ use Rattle.std.specs.List.{filter}
 pub use Rattle.cat_model.specs.declared.types.Progress.{Progress}
 pub use Rattle.cat_model.specs.declared.types.Stop.{Stop}
 use Rattle.cat_model.specs.declared.types.Stop.TheVariants.{Refused, Limit}
-use Rattle.cat_types.specs.Table.{Text, text_cmp, Map, get, keys, tabulate}
+use Rattle.cat_table.specs.Table.{Text, text_cmp, Map, get, keys, tabulate}
 use Rattle.cat_model.specs.Catalogue.{Ref, Parts, Work, Rules, Row, Lease, Record, State, holding, work, parts}
 use Rattle.cat_model.specs.declared.types.Origin.TheVariants.{Provider, Entity}
 use Rattle.cat_model.specs.Step.{Settings, Order, StitchOrder, Event, change, Fault, refusal, step, run}

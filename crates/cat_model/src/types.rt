@@ -1,11 +1,12 @@
 //! What the catalogue is made of, and what it answers. In contracts each of these is the record or the list of its values.
 use cat_ref::reference::Ref;
+use cat_table::listing::{Copied, Listing};
 use cat_tree::text::Text;
 use cat_types::input::Offered;
 use cat_types::issue::Issue;
 use cat_types::node::Node;
 use cat_types::parts::Parts;
-use cat_types::table::{Copied, Listing, Table};
+use cat_types::table::Table;
 use cat_types::work::{Output, Work};
 use std::alloc::{AllocError, Global};
 

@@ -9,7 +9,7 @@ use Rattle.cat_tree.proofs.Edits.{child_of-with_key_other, member_at-put_same}
 use Rattle.cat_ref.specs.Names.{is_namespace}
 use Rattle.cat_ref.specs.Reference.{described, is_map, text_at, part_or, named_by, named_in}
 use Rattle.cat_ref.specs.declared.fault.RefFault.TheVariants.{Shape}
-use Rattle.cat_types.specs.Table.{Text}
+use Rattle.cat_table.specs.Table.{Text}
 use Rattle.cat_schema.specs.Faults.{below, unless, field, members, values, keys, member_fields}
 use Rattle.cat_schema.specs.Forms.{is_as, may_be_there}
 use Rattle.cat_schema.specs.Rules.{metadata, spec, rule_1, rule_2, rule_3, rule_4, rule_5, rule_6, rule_7, rule_8, rule_9, rule_10, rule_11, rule_12, rule_13, rule_14, rule_15, rule_16, rule_17, rule_18, of_metadata, of_map, of_kind, kind_of, of_root, breaches}
@@ -18,11 +18,10 @@ use Rattle.cat_schema.specs.declared.form.Form.TheVariants.{Map, Words, NameOrEm
 use Rattle.cat_schema.specs.declared.form.Wanted.{Wanted}
 use Rattle.cat_schema.specs.declared.form.Wanted.TheVariants.{Needed, Optional}
 use Rattle.cat_schema.specs.Kinds.{kind_named}
-use Rattle.cat_kinds.specs.Fields.{FieldRow, field_rows}
+use Rattle.cat_schema.specs.Fields.{FieldRow, field_rows}
 use Rattle.cat_kinds.specs.Kinds.{faults_of, kind_faults}
 use Rattle.cat_kinds.specs.Kinds as kinds
 use Rattle.cat_kinds.specs.Mentions.{Mention, fits, mentions_at, mentions_in, mentions_by, mentions_by_each, mentions}
-use Rattle.cat_kinds.specs.Mentions as mention
 use Rattle.cat_process.specs.Process.{with_default, with_default_in, entity_of}
 use Rattle.cat_offers.specs.Trees.{IsWithin}
 use Rattle.cat_offers.specs.Forms.{IsProcessed}
@@ -172,9 +171,8 @@ module _ (t m n : Data) (has : child_of metadata t ≡ Some m) (same_map : is_ma
 
   -- ---- reference fields
 
-  fits_alike : (row : FieldRow) → fits (mention.kind_of changed) row ≡ fits (mention.kind_of t) row
-  unfolding mention.kind_of
-  fits_alike row = ap (λ c. fits (text_at c) row) kind_alike
+  fits_alike : (row : FieldRow) → fits (kind_of changed) row ≡ fits (kind_of t) row
+  fits_alike row = ap (λ c. fits (option_and_then kind_named (text_at c)) row) kind_alike
 
   in_alike : (row : FieldRow) → mentions_in row changed ≡ mentions_in row t
   unfolding mentions_in

@@ -2,15 +2,21 @@
 use Rattle.std.proofs.Common.{◌≡◌, ℕ, suc, ◌≤◌, Bool, true, false, List, [], ◌∷◌, Option, None, Some, Result, Ok, Err, IfOk, if◌then◌else◌, nat_lt, refl, arith}
 use Rattle.std.proofs.lemmas.Bool.Decides.{nat_tests}
 use Rattle.std.specs.List.{AllByRecursion}
-use Rattle.cat_tree.specs.Data.{Data, null, flag, whole, words, list, dict, Items, no_items, item}
+use Rattle.cat_tree.specs.Data.{Data, null, flag, whole, words, list, dict, Items, no_items, item, items_of}
 use Rattle.cat_tree.specs.Proper.{ItemsNarrow, ItemsProper}
 use Rattle.cat_tree.specs.declared.read.TreeFault.{TreeFault}
+use Rattle.cat_tree.specs.declared.read.TreeFault.TheVariants.{Fraction}
+use Rattle.cat_yaml.specs.Narrow.{are_narrow}
+use Rattle.cat_yaml.specs.Reading.{reading}
+use Rattle.cat_yaml.specs.declared.fault.Refusal.{Refusal}
+use Rattle.cat_yaml.proofs.Narrowness.{items_narrow}
+use Rattle.cat_yaml.proofs.Proper.{documents_proper}
 use Rattle.cat_ref.specs.Reference.{described, is_map}
 use Rattle.cat_ref.specs.declared.fault.RefFault.{RefFault}
-use Rattle.cat_types.specs.Table.{Text}
+use Rattle.cat_table.specs.Table.{Text}
 use Rattle.cat_inputs.specs.Body.{and_then, onto, each_from}
 use Rattle.cat_inputs.specs.Inputs.{is_deep, first_deep}
-use Rattle.cat_inputs.specs.Reading.{tree_reading}
+use Rattle.cat_inputs.specs.Reading.{is_json, tree_reading, documents_tree, text_tree}
 use Rattle.cat_inputs.specs.Shelf.{objects_from, descriptors, listed_as, listed_at, unless_deep, shallow, shelf_read, shelf_reading}
 use Rattle.cat_inputs.specs.declared.fault.ShelfFault.{ShelfFault}
 use Rattle.cat_inputs.specs.declared.fault.ShelfFault.TheVariants.{Shape}
@@ -22,6 +28,24 @@ use Rattle.cat_offers.proofs.Read.{IsSoundTree, tree_reading_is}
 pub record IsListed (x : Listed) : Type 0 where
   pub named : described x.tree ≡ Ok x.reference
   pub within : IsWithin 100 x.tree
+
+-- ---- the tree of a text
+
+-- the numbers of the documents are narrow, since the definition asks it, and their keys rise
+documents_are : (bytes : List ℕ) (r : Result (List Data) Refusal) → reading bytes ≡ r → IfOk (documents_tree r) IsSoundTree
+documents_are bytes (Ok ds) e = pick (are_narrow (items_of ds)) refl
+  where
+    pick : (b : Bool) → are_narrow (items_of ds) ≡ b → IfOk (if b then Ok (list (items_of ds)) else Err Fraction) IsSoundTree
+    pick true n = record { narrow = items_narrow (items_of ds) n; proper = documents_proper bytes ds e }
+    pick false n = tt
+documents_are bytes (Err refusal) e = tt
+
+text_tree_is : (bytes : List ℕ) → IfOk (text_tree bytes) IsSoundTree
+text_tree_is bytes = pick (is_json bytes)
+  where
+    pick : (b : Bool) → IfOk (if b then tree_reading bytes else documents_tree (reading bytes)) IsSoundTree
+    pick true = tree_reading_is bytes
+    pick false = documents_are bytes (reading bytes) refl
 
 -- ---- steps that may refuse
 
@@ -84,4 +108,4 @@ shelf_read_are (Err fault) h = tt
 
 pub shelf_listed : (bytes : List ℕ) → IfOk (shelf_reading bytes) (AllByRecursion IsListed)
 unfolding shelf_reading
-shelf_listed bytes = shelf_read_are (tree_reading bytes) (tree_reading_is bytes)
+shelf_listed bytes = shelf_read_are (text_tree bytes) (text_tree_is bytes)

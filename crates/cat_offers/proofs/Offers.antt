@@ -6,15 +6,16 @@ use Rattle.cat_tree.specs.Ask.{child_of}
 use Rattle.cat_tree.specs.Data.{Data, null, flag, whole, words, list, dict, no_members}
 use Rattle.cat_tree.specs.Edit.{with_key}
 use Rattle.cat_tree.proofs.Edits.{child_of-with_key_other}
+use Rattle.cat_ref.specs.Names.{is_shelf_name}
 use Rattle.cat_ref.specs.Reference.{described, is_map, text_at, part_or, named_by, named_in}
 use Rattle.cat_ref.specs.declared.fault.RefFault.TheVariants.{Shape}
-use Rattle.cat_types.specs.Table.{Text, Map, same_text, get}
+use Rattle.cat_table.specs.Table.{Text, Map, same_text, get}
 use Rattle.cat_types.specs.declared.input.Offered.{Offered}
-use Rattle.cat_types.proofs.Tables.{text_total, text_antisymmetric, same_is}
+use Rattle.cat_table.proofs.Tables.{text_total, text_antisymmetric, same_is}
+use Rattle.cat_target.specs.Base.{Base}
 use Rattle.cat_target.specs.Location.{base_of, type_of, is_optional, target_texts}
-use Rattle.cat_target.specs.Names.{is_shelf_name}
 use Rattle.cat_target.specs.Resolve.{name_of}
-use Rattle.cat_target.specs.Targets.{names_from, as_targets, targets_by_type, targets_of, is_on_shelf}
+use Rattle.cat_target.specs.Targets.{names_from, as_targets, typed_targets, targets_of, is_on_shelf}
 use Rattle.cat_target.specs.declared.target.Target.{Target}
 use Rattle.cat_target.specs.declared.target.TargetFault.{TargetFault}
 use Rattle.cat_target.specs.declared.target.TargetFault.TheVariants.{TooMany}
@@ -131,10 +132,9 @@ all_append P (x ∷ xs) ys h k = (h.0, all_append P xs ys h.1 k)
 name_of_target : (t : Target) → is_on_shelf t ≡ true → IsName t.name
 unfolding is_shelf_name
 name_of_target t h =
-    let first = and_parts _ _ (and_parts _ _ h).0 in
-    let sizes = and_parts (nat_le 3 (length t.name)) (nat_le (length t.name) 2048) first.0 in
+    let sizes = and_parts (nat_le 3 (length t.name)) _ (and_parts _ _ h).0 in
     let low = leb-true 3 (length t.name) sizes.0 in
-    record { filled = omega arith; short = leb-true (length t.name) 2048 sizes.1 }
+    record { filled = omega arith; short = leb-true (length t.name) 2048 (and_parts (nat_le (length t.name) 2048) _ sizes.1).0 }
 
 contents_stand : (parent : Data) (shelf : Map Text) (ts : List Target) → list_all is_on_shelf ts ≡ true → AllByRecursion MayStand (flat_map (content_offers parent) (map (content_from shelf) ts))
 contents_stand parent shelf [] h = tt
@@ -145,11 +145,11 @@ contents_stand parent shelf (t ∷ ts) h =
 
 -- ---- the targets
 
-named_on_shelf : (optional : Bool) (base : Option (List ℕ × List ℕ)) (kind : List ℕ) (texts : List (List ℕ)) (r : Result (List (List ℕ)) TargetFault) → names_from (name_of base kind) 0 texts ≡ r → IfOk (as_targets optional r) (λ ts. list_all is_on_shelf ts ≡ true)
+named_on_shelf : (optional : Bool) (base : Option Base) (kind : List ℕ) (texts : List (List ℕ)) (r : Result (List (List ℕ)) TargetFault) → names_from (name_of base kind) 0 texts ≡ r → IfOk (as_targets optional r) (λ ts. list_all is_on_shelf ts ≡ true)
 named_on_shelf optional base kind texts (Ok names) e = targets-shelf optional base kind texts names _ e refl
 named_on_shelf optional base kind texts (Err fault) e = tt
 
-by_type_on_shelf : (d : Data) (kind : Option (List ℕ)) → IfOk (targets_by_type d kind) (λ ts. list_all is_on_shelf ts ≡ true)
+by_type_on_shelf : (d : Data) (kind : Option (List ℕ)) → IfOk (typed_targets d kind (target_texts d)) (λ ts. list_all is_on_shelf ts ≡ true)
 by_type_on_shelf d None = tt
 by_type_on_shelf d (Some kind) = named_on_shelf (is_optional d) (base_of d) kind (target_texts d) _ refl
 
@@ -160,8 +160,8 @@ either_ok P false x y h k = k
 targets_on_shelf : (d : Data) → IfOk (targets_of d) (λ ts. list_all is_on_shelf ts ≡ true)
 unfolding targets_of
 targets_on_shelf d =
-    either_ok (λ ts. list_all is_on_shelf ts ≡ true) (nat_lt 1000 (length (target_texts d))) (Err TooMany) (if length (target_texts d) == 0 then Ok [] else targets_by_type d (type_of d)) tt
-    (either_ok (λ ts. list_all is_on_shelf ts ≡ true) (length (target_texts d) == 0) (Ok []) (targets_by_type d (type_of d)) refl (by_type_on_shelf d (type_of d)))
+    either_ok (λ ts. list_all is_on_shelf ts ≡ true) (nat_lt 1000 (length (target_texts d))) (Err TooMany) (if length (target_texts d) == 0 then Ok [] else typed_targets d (type_of d) (target_texts d)) tt
+    (either_ok (λ ts. list_all is_on_shelf ts ≡ true) (length (target_texts d) == 0) (Ok []) (typed_targets d (type_of d) (target_texts d)) refl (by_type_on_shelf d (type_of d)))
 
 entity_on_shelf : (d : Data) → IfOk (entity_targets d) (λ ts. list_all is_on_shelf ts ≡ true)
 entity_on_shelf d = either_ok (λ ts. list_all is_on_shelf ts ≡ true) (is_location d) (targets_of d) (Ok []) (targets_on_shelf d) refl

@@ -1,4 +1,6 @@
 pub mod Trees
 pub mod Repeats
 pub mod Cases
+pub mod Wanted
 pub mod OnShelf
+pub mod Whole

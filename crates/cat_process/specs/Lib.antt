@@ -1,3 +1,4 @@
 pub mod Messages
 pub mod Offers
 pub mod Process
+pub mod Whole

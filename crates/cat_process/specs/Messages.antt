@@ -1,9 +1,8 @@
 -- The messages of issues.
 use Rattle.std.specs.Prelude.{ℕ, ◌++◌, ◌∷◌, codes}
 use Rattle.std.specs.Fmt.{decimal}
-use Rattle.cat_ref.specs.declared.fault.RefFault.{RefFault}
-use Rattle.cat_ref.specs.declared.fault.RefFault.TheVariants as ref
-use Rattle.cat_types.specs.Table.{Text}
+use Rattle.cat_ref.specs.Faults.{fault_text}
+use Rattle.cat_table.specs.Table.{Text}
 use Rattle.cat_schema.specs.declared.faults.SchemaFault.{SchemaFault}
 use Rattle.cat_kinds.specs.declared.answer.KindFault.{KindFault}
 use Rattle.cat_target.specs.declared.target.TargetFault.{TargetFault}
@@ -15,22 +14,13 @@ use Rattle.cat_inputs.specs.declared.fault.ShelfFault.TheVariants as shelf
 abbrev pub spaced : Text → Text → Text
 spaced first second = first ++ 32 ∷ second
 
--- the name of a fault of a reference
-abbrev pub ref_text : RefFault → Text
-ref_text ref.Shape = codes "Shape"
-ref_text ref.NoKind = codes "NoKind"
-ref_text ref.BadKind = codes "BadKind"
-ref_text ref.BadNamespace = codes "BadNamespace"
-ref_text ref.BadName = codes "BadName"
-ref_text ref.NoMemory = codes "NoMemory"
-
 -- the rule and the place, as `S5 metadata.name`
 abbrev pub schema_text : SchemaFault → Text
 schema_text fault = spaced (codes "S" ++ decimal fault.rule) fault.place
 
 -- the fault and the field, as `NoKind spec.dependsOn.0`
 abbrev pub kind_text : KindFault → Text
-kind_text fault = spaced (ref_text fault.fault) fault.place
+kind_text fault = spaced (fault_text fault.fault) fault.place
 
 -- the fault, with the place of a text without a name, as `BadTarget 0`
 abbrev pub target_text : TargetFault → Text
@@ -45,5 +35,5 @@ shelf_text shelf.Syntax = codes "Syntax"
 shelf_text shelf.Fraction = codes "Fraction"
 shelf_text shelf.Shape = codes "Shape"
 shelf_text (shelf.Deep place) = spaced (codes "Deep") (decimal place)
-shelf_text (shelf.NoRef place fault) = spaced (spaced (codes "NoRef") (decimal place)) (ref_text fault)
+shelf_text (shelf.NoRef place fault) = spaced (spaced (codes "NoRef") (decimal place)) (fault_text fault)
 shelf_text shelf.NoMemory = codes "NoMemory"

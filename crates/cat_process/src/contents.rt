@@ -1,16 +1,19 @@
 //! The files that an entity wants, and what the shelf has for them.
-ghost use Rattle.std.specs.Prelude.{◌≡◌, ◌⊎◌, [], map, IfOk, IfErr, Ok, Err};
+ghost use Rattle.std.specs.Prelude.{◌≡◌, ◌⊎◌, ◌==◌, [], map, length, IfOk, IfErr, Ok, Err, if◌then◌else◌};
 ghost use Rattle.std.specs.Option.{option_copied};
 ghost use Rattle.cat_tree.specs.View.{data_of};
 ghost use Rattle.cat_process.specs.Process as spec;
+ghost use Rattle.cat_schema.specs.Rules.{breaches};
+ghost use Rattle.cat_target.specs.Targets.{targets_of};
 
 use cat_schema::rules::check;
+use cat_table::listing::{Copied, Listing};
 use cat_target::target::{Target, TargetFault, targets};
 use cat_tree::ask::child;
 use cat_tree::text::Text;
 use cat_tree::tree::Tree;
 use cat_types::node::Node;
-use cat_types::table::{Copied, Listing, Table};
+use cat_types::table::Table;
 use cat_types::work::Content;
 use std::alloc::{AllocError, Global};
 
@@ -38,26 +41,37 @@ pub fn entity_targets(alloc: Global, tree: &Tree) -> Result<Vec<Target>, TargetF
     }
 }
 
-// The targets, or none at a fault.
+// The targets of a Location, or none at a fault.
 fn targets_unless_faulty(alloc: Global, tree: &Tree) -> Result<Vec<Target>, AllocError>
-    ensures { IfOk result (λ v. v.items ≡ spec.unless_faulty (spec.entity_targets (data_of tree.now))) }
+    ensures { IfOk result (λ v. v.items ≡ spec.unless_faulty (targets_of (data_of tree.now))) }
 {
-    match entity_targets(alloc, tree) {
+    match targets(alloc, tree) {
         Ok(found) => Ok(found),
         Err(TargetFault::NoMemory) => Err(AllocError),
         Err(_) => Ok(Vec::new(alloc)),
     }
 }
 
-/// The files that an entity wants: the targets of a Location that breaks no rule of the descriptor format and has no
-/// target fault, and none of another entity. The only refusal is want of memory.
-#[tactic(auto, unfolding(crate::specs::Process::wanted_of))]
-pub fn wanted(alloc: Global, tree: &Tree) -> Result<Vec<Target>, AllocError>
-    ensures { IfOk result (λ v. v.items ≡ spec.wanted_of (data_of tree.now)) }
+// The targets of a Location that breaks no rule and has no target fault, else none.
+fn faultless_targets(alloc: Global, tree: &Tree) -> Result<Vec<Target>, AllocError>
+    ensures { IfOk result (λ v. v.items ≡ (if length (breaches (data_of tree.now)) == 0
+        then spec.unless_faulty (targets_of (data_of tree.now)) else [])) }
 {
     let faults = check(alloc, tree)?;
     if faults.is_empty() {
         targets_unless_faulty(alloc, tree)
+    } else {
+        Ok(Vec::new(alloc))
+    }
+}
+
+/// The files that an entity wants: the targets of a Location that breaks no rule of the descriptor format and has no
+/// target fault, and none of another entity, whose rules aren't asked. The only refusal is want of memory.
+pub fn wanted(alloc: Global, tree: &Tree) -> Result<Vec<Target>, AllocError>
+    ensures { IfOk result (λ v. v.items ≡ spec.wanted_of (data_of tree.now)) }
+{
+    if is_location(tree) {
+        faultless_targets(alloc, tree)
     } else {
         Ok(Vec::new(alloc))
     }

@@ -14,11 +14,11 @@ use cat_ref::fault::RefFault;
 use cat_ref::reference::{Ref, ref_of};
 use cat_schema::faults::SchemaFault;
 use cat_schema::rules::{check, sound_names_entity};
+use cat_table::listing::Listing;
 use cat_target::target::TargetFault;
 use cat_tree::text::Text;
 use cat_tree::tree::Tree;
 use cat_types::issue::{Issue, IssueName, Level};
-use cat_types::table::Listing;
 use std::alloc::{AllocError, Global};
 
 /// An issue of the level `error`.

@@ -5,7 +5,6 @@ ghost use Rattle.cat_process.specs.Messages as spec;
 
 use cat_inputs::fault::ShelfFault;
 use cat_kinds::answer::KindFault;
-use cat_ref::fault::RefFault;
 use cat_schema::faults::SchemaFault;
 use cat_target::target::TargetFault;
 use cat_tree::text::Text;
@@ -29,20 +28,6 @@ fn placed(alloc: Global, word: &str, place: usize) -> Result<Text, AllocError>
     spaced(alloc, word, place.as_str())
 }
 
-/// The name of a fault of a reference, as `NoKind`.
-pub fn ref_text(fault: RefFault) -> &'static str
-    ensures { result.now ≡ spec.ref_text fault }
-{
-    match fault {
-        RefFault::Shape => "Shape",
-        RefFault::NoKind => "NoKind",
-        RefFault::BadKind => "BadKind",
-        RefFault::BadNamespace => "BadNamespace",
-        RefFault::BadName => "BadName",
-        RefFault::NoMemory => "NoMemory",
-    }
-}
-
 /// The rule that is broken and the place, as `S5 metadata.name`.
 pub fn schema_text(alloc: Global, fault: &SchemaFault) -> Result<Text, AllocError>
     ensures { IfOk result (λ t. t ≡ spec.schema_text fault.now) }
@@ -57,7 +42,7 @@ pub fn schema_text(alloc: Global, fault: &SchemaFault) -> Result<Text, AllocErro
 pub fn kind_text(alloc: Global, fault: &KindFault) -> Result<Text, AllocError>
     ensures { IfOk result (λ t. t ≡ spec.kind_text fault.now) }
 {
-    spaced(alloc, ref_text(fault.fault), fault.place.as_str())
+    spaced(alloc, fault.fault.text(), fault.place.as_str())
 }
 
 /// Why a Location has no targets, as `TooMany` or `BadTarget 0`.
@@ -83,7 +68,7 @@ pub fn shelf_text(alloc: Global, fault: ShelfFault) -> Result<Text, AllocError>
         ShelfFault::Deep(place) => placed(alloc, "Deep", place),
         ShelfFault::NoRef(place, fault) => {
             let place = placed(alloc, "NoRef", place)?;
-            spaced(alloc, place.as_str(), ref_text(fault))
+            spaced(alloc, place.as_str(), fault.text())
         }
         ShelfFault::NoMemory => Text::of(alloc, "NoMemory"),
     }

@@ -123,7 +123,7 @@ fn offer(
 {
     let reference = listed.reference.copy(alloc)?;
     let key = Text::of(alloc, name)?;
-    let tree = Node::new(annotated(alloc, origin, name, listed.tree.tree())?);
+    let tree = Node::new(alloc, annotated(alloc, origin, name, listed.tree.tree())?)?;
     Ok((reference, Offered { key, tree }))
 }
 

@@ -12,6 +12,7 @@ use crate::offers::{each_once, origin_of, push_offers};
 use cat_inputs::fault::ShelfFault;
 use cat_inputs::shelf::shelf_list;
 use cat_ref::reference::Ref;
+use cat_table::listing::Listing;
 use cat_target::location::is_optional;
 use cat_tree::ask::child;
 use cat_tree::clone::copy;
@@ -21,7 +22,7 @@ use cat_tree::tree::Tree;
 use cat_types::input::Offered;
 use cat_types::issue::{Issue, IssueName};
 use cat_types::node::Node;
-use cat_types::table::{Listing, Table};
+use cat_types::table::Table;
 use cat_types::work::{Content, Outcome, Output, Work};
 use std::alloc::{AllocError, Global};
 
@@ -147,7 +148,7 @@ fn entity_of(alloc: Global, tree: &Tree) -> Result<Tree, AllocError>
 fn good(alloc: Global, tree: &Tree, offers: Vec<(Ref, Offered)>) -> Result<Outcome, AllocError>
     ensures { IfOk result (λ o. o ≡ spec.good (data_of tree.now) offers.items) }
 {
-    let entity = Node::new(entity_of(alloc, tree)?);
+    let entity = Node::new(alloc, entity_of(alloc, tree)?)?;
     let offers = each_once(alloc, offers)?;
     let output = Output {
         entity,

@@ -14,7 +14,7 @@ use std::test::Fail;
 
 // The result of an entity over a shelf that has this text under `file:/r.json`, where it isn't empty.
 fn outcome(alloc: Global, tree: &str, body: &str) -> Result<Outcome, Fail> {
-    let tree = Node::new(read(alloc, tree.as_bytes())?);
+    let tree = Node::new(alloc, read(alloc, tree.as_bytes())?)?;
     let mut shelf = Table::new(alloc);
     if !body.is_empty() {
         shelf.put(Text::of(alloc, "file:/r.json")?, Text::of(alloc, body)?)?;

@@ -8,8 +8,8 @@ use Rattle.std.specs.Ordering.{is_eq}
 use Rattle.std.specs.Cmp.{tied_itself}
 use Rattle.std.proofs.lemmas.Bool.Decides.{nat_tests}
 use Rattle.std.specs.FinMap.Entries.{is_sorted}
-use Rattle.cat_types.specs.Table.{Text, Map, find, text_cmp}
-use Rattle.cat_types.proofs.Tables.{text_total, and_first, and_second, not_true}
+use Rattle.cat_table.specs.Table.{Text, Map, find, text_cmp}
+use Rattle.cat_table.proofs.Tables.{text_total, and_first, and_second, not_true}
 use Rattle.cat_records.specs.declared.view.RecordView.{RecordView}
 use Rattle.cat_records.specs.Register.{Register, IsDue}
 use Rattle.cat_records.specs.Leases.{earlier, earliest, is_free, may_take}

@@ -3,8 +3,8 @@ use Rattle.std.proofs.Common.{◌≡◌, ℕ, ◌+◌, ◌<◌, ◌≤◌, ◌^�
 use Rattle.std.specs.declared.option.Option.TheVariants.{None, Some}
 use Rattle.std.specs.FinMap.Entries.{find-put, find-where_key}
 use Rattle.std.specs.Cmp.{alike_right}
-use Rattle.cat_types.specs.Table.{Text, Map, get, put, same_text, text_cmp}
-use Rattle.cat_types.proofs.Tables.{text_total, text_antisymmetric, same_is}
+use Rattle.cat_table.specs.Table.{Text, Map, get, put, same_text, text_cmp}
+use Rattle.cat_table.proofs.Tables.{text_total, text_antisymmetric, same_is}
 use Rattle.std.specs.Ordering.{is_eq}
 use Rattle.cat_records.specs.declared.view.RecordView.{RecordView}
 use Rattle.cat_records.specs.Register.{Register, fresh, one_number_on, view_at, without}

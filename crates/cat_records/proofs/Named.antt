@@ -9,8 +9,8 @@ use Rattle.std.specs.Ordering.{is_eq}
 use Rattle.std.specs.Cmp.{tied_itself}
 use Rattle.std.specs.FinMap.Entries.{is_some-find, is_sorted}
 use Rattle.std.proofs.lemmas.Bool.Decides.{nat_tests}
-use Rattle.cat_types.specs.Table.{Text, Map, find, keys, text_cmp}
-use Rattle.cat_types.proofs.Tables.{text_total, text_antisymmetric, and_second, first_in}
+use Rattle.cat_table.specs.Table.{Text, Map, find, keys, text_cmp}
+use Rattle.cat_table.proofs.Tables.{text_total, text_antisymmetric, and_second, first_in}
 use Rattle.cat_records.specs.declared.view.RecordView.{RecordView}
 use Rattle.cat_records.specs.Register.{Register, IsKnown, IsNumbered, IsUnnumbered, comes_after, has_number, named, next_after}
 use Rattle.cat_records.proofs.Places.{found_behind, found_cases, nothing_some, same_some}

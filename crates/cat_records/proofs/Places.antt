@@ -5,8 +5,8 @@ use Rattle.std.specs.declared.option.Option.TheVariants.{None, Some}
 use Rattle.std.specs.List.{insert, remove}
 use Rattle.std.specs.Ordering.{is_lt, is_eq, ordering_reverse}
 use Rattle.std.specs.FinMap.Entries.{below_all, by_order, is_sorted, is_sorted-put, is_sorted-where_key, where_key}
-use Rattle.cat_types.specs.Table.{Text, Map, find, get, put, same_text, text_cmp}
-use Rattle.cat_types.proofs.Tables.{text_total, text_antisymmetric, and_first, and_second}
+use Rattle.cat_table.specs.Table.{Text, Map, find, get, put, same_text, text_cmp}
+use Rattle.cat_table.proofs.Tables.{text_total, text_antisymmetric, and_first, and_second}
 use Rattle.cat_records.specs.Places.{below}
 
 -- the two ways to say that a test holds

@@ -3,7 +3,7 @@ use Rattle.std.specs.Prelude.{◌≡◌, ◌<◌, ◌⊎◌, ℕ, ◌+◌, ◌^�
 use Rattle.std.specs.declared.option.Option.{Option}
 use Rattle.std.specs.declared.option.Option.TheVariants.{None, Some}
 use Rattle.std.specs.Ordering.{is_gt}
-use Rattle.cat_types.specs.Table.{Text, Map, text_cmp}
+use Rattle.cat_table.specs.Table.{Text, Map, text_cmp}
 use Rattle.cat_records.specs.declared.view.Lease.{Lease}
 use Rattle.cat_records.specs.declared.view.RecordView.{RecordView}
 use Rattle.cat_records.specs.declared.view.RecordFault.{RecordFault}

@@ -5,7 +5,7 @@ use Rattle.std.specs.declared.option.Option.TheVariants.{None, Some}
 use Rattle.std.specs.List as lists
 use Rattle.std.specs.FinMap.Entries.{where_key}
 use Rattle.std.specs.Ordering.{is_gt}
-use Rattle.cat_types.specs.Table.{Text, Map, first, get, keys, put, put_some, same_text, text_cmp}
+use Rattle.cat_table.specs.Table.{Text, Map, first, get, keys, put, put_some, same_text, text_cmp}
 use Rattle.cat_records.specs.declared.view.RecordView.{RecordView}
 
 -- the views by reference, in order; the numbers that the next record and the next lease get; and for how many more numbers room is kept

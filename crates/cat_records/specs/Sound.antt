@@ -2,7 +2,7 @@
 use Rattle.std.specs.Prelude.{◌≡◌, ℕ, ◌+◌, ◌<◌, ◌≤◌, ◌^◌, true, IsTrue}
 use Rattle.std.specs.declared.option.Option.TheVariants.{None, Some}
 use Rattle.std.specs.FinMap.Entries.{is_sorted}
-use Rattle.cat_types.specs.Table.{Text, text_cmp}
+use Rattle.cat_table.specs.Table.{Text, text_cmp}
 use Rattle.cat_records.specs.declared.view.Lease.{Lease}
 use Rattle.cat_records.specs.declared.view.RecordView.{RecordView}
 use Rattle.cat_records.specs.Register.{Register, view_at}

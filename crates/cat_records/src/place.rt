@@ -2,13 +2,13 @@
 ghost use Rattle.std.specs.Prelude.{◌≡◌, ◌+◌, ◌<◌, ◌≤◌, IsSome, IsTrue, length, option_map, vec_capacity, vec_len};
 ghost use Rattle.std.specs.List as lists;
 ghost use Rattle.std.specs.FinMap.Entries.{is_sorted};
-ghost use Rattle.cat_types.specs.Table.{first, get, keys, put, text_cmp};
+ghost use Rattle.cat_table.specs.Table.{first, get, keys, put, text_cmp};
 ghost use Rattle.cat_records.specs.Places.{below};
 ghost use Rattle.cat_records.specs.Register.{comes_after, has_number, without};
 
 use crate::view::RecordView;
 use cat_ref::reference::Ref;
-use cat_types::table::Key;
+use cat_table::key::Key;
 use std::cmp::Ordering;
 
 /// A reference with what is known of it.

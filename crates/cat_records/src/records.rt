@@ -9,7 +9,7 @@ use crate::lease::first_due;
 use crate::place::{Entry, erase, found, insert, next, numbered, write};
 use crate::view::{Accepting, Lease, Leased, RecordFault, RecordView};
 use cat_ref::reference::Ref;
-use cat_types::table::Copied;
+use cat_table::listing::Copied;
 use std::alloc::Global;
 use std::marker::Model;
 

@@ -18,6 +18,25 @@ pub enum RefFault {
     NoMemory,
 }
 
+impl RefFault {
+    ghost use Rattle.std.specs.Prelude.{◌≡◌};
+    ghost use Rattle.cat_ref.specs.Faults.{fault_text};
+
+    /// The name of the fault, as `NoKind`. Takes no memory.
+    pub fn text(self) -> &'static str
+        ensures { result.now ≡ fault_text self }
+    {
+        match self {
+            RefFault::Shape => "Shape",
+            RefFault::NoKind => "NoKind",
+            RefFault::BadKind => "BadKind",
+            RefFault::BadNamespace => "BadNamespace",
+            RefFault::BadName => "BadName",
+            RefFault::NoMemory => "NoMemory",
+        }
+    }
+}
+
 impl From<AllocError> for RefFault {
     ghost use Rattle.std.specs.Prelude.{◌≡◌};
     ghost use Rattle.cat_ref.specs.declared.fault.RefFault.TheVariants.{NoMemory};

@@ -1,11 +1,12 @@
 //! References of entities, each its full text `kind:namespace/name`, after the Backstage documentation's
 //! page on entity references.
-ghost use Rattle.std.specs.Prelude.{◌≡◌, ℕ, List, Option, ◌==◌, ◌⊎◌, IfOk, IfErr, IsSome, Ok, Err, string_bytes, option_map, codes};
+ghost use Rattle.std.specs.Prelude.{◌≡◌, ◌↔◌, ℕ, List, Option, ◌==◌, ◌⊎◌, IfOk, IfErr, IsSome, IsTrue, Ok, Err, string_bytes, option_map, codes};
 ghost use Rattle.std.proofs.Common.{rules};
 ghost use Rattle.std.specs.Cmp.{partial_order_from_own_ties};
 ghost use Rattle.std.specs.Cmp.Lexicographic.{slice_cmp, pointwise};
 ghost use Rattle.std.specs.Cmp.Rules.{comparing};
 ghost use Rattle.std.specs.Ordering.{nat_cmp, as_partial_cmp};
+ghost use Rattle.std.specs.Arc.{arc_value};
 ghost use Rattle.std.specs.Option.{option_copied};
 ghost use Rattle.cat_tree.specs.View.{data_of};
 ghost use Rattle.cat_ref.specs.Pieces.{pieces_of};
@@ -21,23 +22,25 @@ use cat_tree::tree::Tree;
 use std::alloc::{AllocError, Global};
 use std::cmp::Ordering;
 use std::marker::Model;
+use std::sync::Arc;
 
 /// A kind, a namespace and a name of their forms, folded to lower case in ASCII. Contracts see the full
-/// text `kind:namespace/name`, by which references are ordered.
+/// text `kind:namespace/name`, by which references are ordered. Copies share it.
 #[derive(Drop)]
 pub struct Ref {
-    text: Text,
+    text: Arc<Text, Global>,
 }
 
 impl Model for Ref {
     ghost use Rattle.std.specs.Prelude.{ℕ, List};
+    ghost use Rattle.std.specs.Arc.{arc_value};
     ghost use Rattle.cat_ref.specs.Reference.{IsReference};
 
     ghost Value = { List ℕ };
 
-    ghost view = { λ a. a.text };
+    ghost view = { λ a. arc_value a.text };
 
-    ghost invariant = { λ a. IsReference a.text };
+    ghost invariant = { λ a. IsReference (arc_value a.text) };
 }
 
 impl Ref {
@@ -48,13 +51,20 @@ impl Ref {
         self.text.as_str()
     }
 
-    /// An equal reference with memory of its own.
-    pub fn copy(&self, alloc: Global) -> Result<Ref, AllocError>
+    /// An equal reference that shares the text, in a time that doesn't grow with it. Takes no memory.
+    pub fn copy(&self, _alloc: Global) -> Result<Ref, AllocError>
         ensures { IfOk result (λ r. r ≡ self.now) }
     {
         Ok(Ref {
-            text: Text::of(alloc, self.text.as_str())?,
+            text: Arc::try_clone(&self.text)?,
         })
+    }
+
+    /// Whether the references are equal: whether they name the same entity.
+    pub fn same(&self, other: &Ref) -> bool
+        ensures { IsTrue result ↔ (self.now ≡ other.now) }
+    {
+        self.as_str() == other.as_str()
     }
 
     /// Lends the kind, the namespace and the name, in lower case.
@@ -115,7 +125,7 @@ fn of_parts(alloc: Global, kind: &str, namespace: &str, name: &str) -> Result<Re
     }
     let text = joined(alloc, kind, namespace, name)?;
     Ok(Ref {
-        text: Text::from_string(text),
+        text: Arc::new(alloc, Text::from_string(text))?,
     })
 }
 
@@ -158,7 +168,8 @@ fn is_map(tree: &Tree) -> bool
     matches!(tree, Tree::Map(_))
 }
 
-fn text_in(tree: &Tree) -> Option<&str>
+/// Lends the text, if the tree is one.
+pub fn text_in(tree: &Tree) -> Option<&str>
     ensures { option_copied result ≡ text_in (data_of tree.now) }
 {
     match tree {
@@ -167,7 +178,8 @@ fn text_in(tree: &Tree) -> Option<&str>
     }
 }
 
-fn text_at<'a>(part: Option<&'a Tree>) -> Option<&'a str>
+/// Lends the text of a part, if it is there and a text.
+pub fn text_at<'a>(part: Option<&'a Tree>) -> Option<&'a str>
     ensures { option_copied result ≡ text_at (option_map (λ t. data_of t.now) part.entry) }
 {
     match part {

@@ -260,6 +260,7 @@ fn compares_texts(rt: HostRuntime) -> Result<(), RefFault> {
     let second = parse(rt.alloc(), "a:b/d", None, "default")?;
     let again = first.copy(rt.alloc())?;
     assert!(rt; first < second && first == again);
+    assert!(rt; first.same(&again) && !first.same(&second));
     assert_eq!(rt; first.as_str(), "a:b/c");
     let parts = second.parts();
     assert!(rt; parts.kind == Some("a") && parts.namespace == Some("b") && parts.name == "d");

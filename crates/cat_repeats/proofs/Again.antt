@@ -6,9 +6,9 @@ use Rattle.std.specs.declared.option.Option.TheVariants.{None, Some}
 use Rattle.std.specs.declared.result.Result.{Result}
 use Rattle.std.specs.declared.result.Result.TheVariants.{Ok, Err}
 use Rattle.std.specs.Ordering.{nat_cmp}
-use Rattle.cat_types.specs.Table.{Text, find, get, put, text_cmp}
+use Rattle.cat_table.specs.Table.{Text, find, get, put, text_cmp}
 use Rattle.cat_types.specs.declared.input.Mutation.{Mutation}
-use Rattle.cat_types.proofs.Tables.{text_total, text_antisymmetric, find-put_same}
+use Rattle.cat_table.proofs.Tables.{text_total, text_antisymmetric, find-put_same}
 use Rattle.cat_line.specs.Lines.{line_of}
 use Rattle.cat_line.specs.declared.line.Line.{Line}
 use Rattle.cat_line.specs.declared.line.Line.TheVariants as asks

@@ -11,7 +11,7 @@ ghost use Rattle.cat_model.specs.Step.Event.{Mutate};
 ghost use Rattle.cat_model.specs.declared.types.Settings.{Settings};
 ghost use Rattle.cat_transcript.specs.Session.{session_after};
 ghost use Rattle.cat_transcript.specs.declared.state.SessionState.{SessionState};
-ghost use Rattle.cat_types.specs.Table.{Text};
+ghost use Rattle.cat_table.specs.Table.{Text};
 ghost use Rattle.cat_types.specs.declared.input.Mutation.{Mutation};
 
 /// A line whose serial isn't above its provider's last one changes nothing, last serials never fall whatever lines come, and so

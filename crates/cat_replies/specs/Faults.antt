@@ -3,8 +3,7 @@ use Rattle.std.specs.Prelude.{ℕ, List, [], ◌∷◌, codes}
 use Rattle.std.specs.Fmt.{decimal}
 use Rattle.cat_tree.specs.declared.read.TreeFault.{TreeFault}
 use Rattle.cat_tree.specs.declared.read.TreeFault.TheVariants as tree
-use Rattle.cat_ref.specs.declared.fault.RefFault.{RefFault}
-use Rattle.cat_ref.specs.declared.fault.RefFault.TheVariants as ref
+use Rattle.cat_ref.specs.Faults.{fault_text}
 use Rattle.cat_inputs.specs.Faults.{place_text}
 use Rattle.cat_inputs.specs.declared.fault.InputFault.{InputFault}
 use Rattle.cat_inputs.specs.declared.fault.InputFault.TheVariants as input
@@ -29,15 +28,6 @@ no_tree tree.Syntax = said (codes "refused json syntax")
 no_tree tree.Fraction = said (codes "refused json fraction")
 no_tree tree.NoMemory = no_memory
 
--- the name of a fault of a reference
-abbrev pub ref_text : RefFault → List ℕ
-ref_text ref.Shape = codes "Shape"
-ref_text ref.NoKind = codes "NoKind"
-ref_text ref.BadKind = codes "BadKind"
-ref_text ref.BadNamespace = codes "BadNamespace"
-ref_text ref.BadName = codes "BadName"
-ref_text ref.NoMemory = codes "NoMemory"
-
 -- words and a place
 abbrev pub at : List ℕ → ℕ → List ℕ
 at words place = line (words ∷ decimal place ∷ [])
@@ -48,6 +38,6 @@ no_mutation (input.Json fault) = no_tree fault
 no_mutation (input.Shape place) = line (codes "refused shape " ∷ place_text place ∷ [])
 no_mutation input.TooMany = said (codes "refused too_many")
 no_mutation (input.Deep place) = at (codes "refused deep ") place
-no_mutation (input.NoRef place fault) = line (codes "refused no_ref " ∷ decimal place ∷ codes " " ∷ ref_text fault ∷ [])
+no_mutation (input.NoRef place fault) = line (codes "refused no_ref " ∷ decimal place ∷ codes " " ∷ fault_text fault ∷ [])
 no_mutation (input.Duplicate place) = at (codes "refused duplicate ") place
 no_mutation input.NoMemory = no_memory

@@ -2,12 +2,14 @@
 ghost use Rattle.std.specs.Prelude.{◌≡◌, ◌++◌, IfOk, OnOk, map, option_map};
 ghost use Rattle.cat_model.specs.Catalogue.{holding, row_at};
 ghost use Rattle.cat_model.specs.Reply as spec;
-ghost use Rattle.cat_types.specs.Table.{put_some};
+ghost use Rattle.cat_table.specs.Table.{put_some};
 ghost use Rattle.cat_replies.specs.Shown as seen;
 
 use cat_model::types::{Row, State};
 use cat_ref::reference::Ref;
-use cat_types::table::{Copied, Key, Table};
+use cat_table::key::Key;
+use cat_table::listing::Copied;
+use cat_types::table::Table;
 use std::alloc::{AllocError, Global};
 use std::cmp::Ordering;
 

@@ -6,7 +6,6 @@ ghost use Rattle.cat_replies.specs.Line.{Appends};
 use crate::events::push_no_memory;
 use crate::line::{Piece, push_line};
 use cat_inputs::fault::InputFault;
-use cat_ref::fault::RefFault;
 use cat_tree::read::TreeFault;
 use std::alloc::AllocError;
 
@@ -41,20 +40,6 @@ fn push_no_tree(out: &mut Vec<u8>, fault: TreeFault) -> Result<(), AllocError>
     }
 }
 
-/// The name of a fault of a reference, as `NoKind`.
-pub fn ref_text(fault: RefFault) -> &'static str
-    ensures { result.now ≡ spec.ref_text fault }
-{
-    match fault {
-        RefFault::Shape => "Shape",
-        RefFault::NoKind => "NoKind",
-        RefFault::BadKind => "BadKind",
-        RefFault::BadNamespace => "BadNamespace",
-        RefFault::BadName => "BadName",
-        RefFault::NoMemory => "NoMemory",
-    }
-}
-
 fn push_at(out: &mut Vec<u8>, words: &str, place: usize) -> Result<(), AllocError>
     ensures { Appends out.old out.new result (spec.at words.now place) }
 {
@@ -81,7 +66,7 @@ pub fn push_no_mutation(out: &mut Vec<u8>, fault: InputFault) -> Result<(), Allo
                 Piece::Text("refused no_ref "),
                 Piece::Number(place as u64),
                 Piece::Text(" "),
-                Piece::Text(ref_text(fault)),
+                Piece::Text(fault.text()),
             ],
         ),
         InputFault::Duplicate(place) => push_at(out, "refused duplicate ", place),

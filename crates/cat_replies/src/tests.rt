@@ -5,9 +5,10 @@ use crate::events::{
 use crate::lists::push_failures;
 use cat_model::types::{Acted, Counter, Fault, Finished, Placed, Record};
 use cat_ref::reference::{Ref, parse};
+use cat_table::listing::Listing;
 use cat_tree::text::Text;
 use cat_types::issue::{Issue, IssueName, Level};
-use cat_types::table::{Listing, Table};
+use cat_types::table::Table;
 use std::alloc::Global;
 use std::test::Fail;
 

@@ -4,7 +4,7 @@ use Rattle.std.specs.declared.option.Option.{Option}
 use Rattle.std.specs.declared.option.Option.TheVariants.{None, Some}
 use mathlib.Core.Bool.{beq}
 use Rattle.cat_tree.specs.Same.{is_same}
-use Rattle.cat_types.specs.Table.{Text, same_text}
+use Rattle.cat_table.specs.Table.{Text, same_text}
 use Rattle.cat_types.specs.declared.issue.Issue.{Issue}
 use Rattle.cat_types.specs.declared.issue.IssueName.{IssueName}
 use Rattle.cat_types.specs.declared.issue.IssueName.TheVariants.{SchemaFault, ReferenceFault, TargetFault, MissingTarget, ShelfFault, DuplicateOffer}

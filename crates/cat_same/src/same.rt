@@ -1,14 +1,14 @@
 //! Tests of equality.
 ghost use Rattle.std.specs.Prelude.{◌≡◌, ◌↔◌, IsTrue, Bool};
-ghost use Rattle.cat_types.specs.Table.{same_text};
+ghost use Rattle.cat_table.specs.Table.{same_text};
 ghost use Rattle.cat_same.specs.Same as spec;
 
 use cat_ref::reference::Ref;
+use cat_table::key::Key;
 use cat_tree::text::Text;
 use cat_types::issue::{Issue, IssueName, Level};
 use cat_types::parts::Parts;
 use cat_types::relation::{RelKind, Relation};
-use cat_types::table::Key;
 use cat_types::work::{Content, Work};
 use std::cmp::Ordering;
 

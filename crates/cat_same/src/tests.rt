@@ -1,12 +1,12 @@
 use crate::same::{parts_alike, works_alike};
 use cat_ref::reference::parse;
+use cat_table::listing::Listing;
 use cat_tree::read::read;
 use cat_tree::text::Text;
 use cat_types::issue::{Issue, IssueName, Level};
 use cat_types::node::Node;
 use cat_types::parts::Parts;
 use cat_types::relation::{RelKind, Relation};
-use cat_types::table::Listing;
 use cat_types::work::{Content, Work};
 use std::alloc::Global;
 use std::test::Fail;
@@ -22,7 +22,7 @@ fn work(alloc: Global, tree: &[u8], body: Option<&str>) -> Result<Work, Fail> {
         body,
     })?;
     Ok(Work {
-        tree: Node::new(read(alloc, tree)?),
+        tree: Node::new(alloc, read(alloc, tree)?)?,
         contents,
     })
 }
@@ -41,7 +41,7 @@ fn parts(alloc: Global, number: u64, kind: RelKind, name: IssueName) -> Result<P
         message: Text::of(alloc, "S2 apiVersion")?,
     })?;
     Ok(Parts {
-        entity: Node::new(read(alloc, b"{}")?),
+        entity: Node::new(alloc, read(alloc, b"{}")?)?,
         number,
         orphan: false,
         relations,

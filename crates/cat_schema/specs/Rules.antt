@@ -1,7 +1,8 @@
 -- The schema of descriptors, after the Descriptor Format: the breaches of each rule, one rule after the other, and of all.
 -- The comment above a rule says what must hold; its breaches are the places where it doesn't.
 -- `t` is the descriptor, `m` its metadata, `s` its spec and `k` its kind.
-use Rattle.std.specs.Prelude.{ℕ, List, [], ◌∷◌, ◌++◌, Option, Some, None, option_and_then, if◌then◌else◌, codes}
+use Rattle.std.specs.Prelude.{ℕ, List, [], ◌∷◌, ◌++◌, Bool, not, ◌&&◌, Option, Some, None, bytes_eq, option_and_then, if◌then◌else◌, codes}
+use Rattle.std.specs.List.{flat_map, list_any}
 use Rattle.cat_tree.specs.Ask.{child_of}
 use Rattle.cat_tree.specs.Data.{Data}
 use Rattle.cat_schema.specs.declared.form.Form.TheVariants.{Map, List as Listing, Words, Filled, ApiVersion, KindName, Name, NameOrEmpty, Namespace, Tag, LocationType, Presence, Link}
@@ -9,8 +10,9 @@ use Rattle.cat_schema.specs.declared.form.Wanted.TheVariants.{Needed, Optional}
 use Rattle.cat_schema.specs.declared.faults.SchemaFault.{SchemaFault}
 use Rattle.cat_schema.specs.declared.kind.Kind.{Kind}
 use Rattle.cat_schema.specs.declared.kind.Kind.TheVariants.{Component, Api, Resource, System, Domain, Group, User, Location}
-use Rattle.cat_schema.specs.Faults.{unless, field, fields, part_fields, members, values, keys, member_fields, lists}
-use Rattle.cat_schema.specs.Kinds.{kind_named}
+use Rattle.cat_schema.specs.Faults.{below, unless, field, fields, part_fields, members, values, keys, member_fields, lists}
+use Rattle.cat_schema.specs.Fields.{FieldRow, field_rows, has_field}
+use Rattle.cat_schema.specs.Kinds.{kind_named, required_texts, required_lists}
 use Rattle.cat_ref.specs.Reference.{is_map, text_at}
 
 -- the key of the metadata
@@ -100,60 +102,46 @@ rule_17 m =
 abbrev pub rule_18 : Data → List SchemaFault
 rule_18 t = field 18 (Needed Map) t [] spec
 
--- the texts that a kind requires
-abbrev pub required_texts : Kind → List (List ℕ)
-required_texts Component = codes "type" ∷ codes "lifecycle" ∷ codes "owner" ∷ []
-required_texts Api = codes "type" ∷ codes "lifecycle" ∷ codes "owner" ∷ codes "definition" ∷ []
-required_texts Resource = codes "type" ∷ codes "owner" ∷ []
-required_texts System = codes "owner" ∷ []
-required_texts Domain = codes "owner" ∷ []
-required_texts Group = codes "type" ∷ []
-required_texts User = []
-required_texts Location = []
-
 -- the texts that the kind requires are there and not empty
 unfoldable pub rule_19 : Kind → Data → List SchemaFault
 rule_19 k s = fields 19 (Needed Filled) s spec (required_texts k)
 
--- the children of a group are a list
+-- the lists that the kind requires, which are a group's children, are lists
 unfoldable pub rule_20 : Kind → Data → List SchemaFault
-rule_20 Group s = field 20 (Needed Listing) s spec (codes "children")
-rule_20 _ s = []
+rule_20 k s = fields 20 (Needed Listing) s spec (required_lists k)
 
--- the single references that a kind may have
-abbrev pub single_references : Kind → List (List ℕ)
-single_references Component = codes "system" ∷ codes "subcomponentOf" ∷ []
-single_references Api = codes "system" ∷ []
-single_references Resource = codes "system" ∷ []
-single_references System = codes "domain" ∷ []
-single_references Domain = codes "subdomainOf" ∷ []
-single_references Group = codes "parent" ∷ []
-single_references User = []
-single_references Location = []
+-- a key is among these
+abbrev pub is_among : List ℕ → List (List ℕ) → Bool
+is_among key ks = list_any (λ k. bytes_eq k key) ks
+
+-- the kind has the field, which is a single reference that it doesn't require
+abbrev pub may_have_single : Kind → FieldRow → Bool
+may_have_single k row = has_field k row && not row.is_list && not (is_among row.key (required_texts k))
+
+-- the kind has the field, which is a list of references
+abbrev pub has_list : Kind → FieldRow → Bool
+has_list k row = has_field k row && row.is_list
+
+-- such a single reference is absent or a text that isn't empty
+abbrev pub single_reference : Kind → Data → FieldRow → List SchemaFault
+single_reference k s row = if may_have_single k row then field 21 (Optional Filled) s spec row.key else []
 
 -- each single reference of the kind is absent or a text that isn't empty
 unfoldable pub rule_21 : Kind → Data → List SchemaFault
-rule_21 k s = fields 21 (Optional Filled) s spec (single_references k)
+rule_21 k s = flat_map (single_reference k s) field_rows
 
--- the lists of references that a kind may have, but for the children of a group
-abbrev pub list_references : Kind → List (List ℕ)
-list_references Component = codes "providesApis" ∷ codes "consumesApis" ∷ codes "dependsOn" ∷ codes "dependencyOf" ∷ []
-list_references Api = []
-list_references Resource = codes "dependsOn" ∷ codes "dependencyOf" ∷ []
-list_references System = []
-list_references Domain = []
-list_references Group = codes "members" ∷ []
-list_references User = codes "memberOf" ∷ []
-list_references Location = []
+-- a list is absent or a list; whether one that the kind requires is a list is asked by another rule
+abbrev pub may_be_list : Kind → Data → FieldRow → List SchemaFault
+may_be_list k s row = if is_among row.key (required_lists k) then [] else field 22 (Optional Listing) s spec row.key
 
--- whether the children are a list is asked by another rule
-abbrev pub children : Kind → Data → List SchemaFault
-children Group s = members 22 Filled (child_of (codes "children") s) (codes "spec.children")
-children _ s = []
+-- such a list of references is absent or a list of texts that aren't empty
+abbrev pub list_reference : Kind → Data → FieldRow → List SchemaFault
+list_reference k s row =
+    if has_list k row then may_be_list k s row ++ members 22 Filled (child_of row.key s) (below spec row.key) else []
 
 -- each list of references of the kind is absent or a list of texts that aren't empty
 unfoldable pub rule_22 : Kind → Data → List SchemaFault
-rule_22 k s = children k s ++ lists 22 Filled s spec (list_references k)
+rule_22 k s = flat_map (list_reference k s) field_rows
 
 -- a profile is absent or a map, with these fields absent or texts
 abbrev pub profile : Data → List SchemaFault

@@ -328,6 +328,22 @@ impl Faults {
         }
     }
 
+    /// Each member of the list at a key has the form; another tree, or none, has no members.
+    pub fn members_at(
+        &mut self,
+        rule: u8,
+        form: Form,
+        parent: &Tree,
+        place: &str,
+        key: &str,
+    ) -> Result<(), AllocError>
+        ensures { OnOk result (self.new ≡ self.old
+            ++ members rule form (child_of key.now (data_of parent.now)) (below place.now key.now)) }
+    {
+        let place = below(self.alloc, place, key)?;
+        self.members(rule, form, child(parent, key), place.as_str())
+    }
+
     // The field at a key is absent or a list whose members have the form.
     fn list(
         &mut self,
@@ -342,8 +358,7 @@ impl Faults {
             ++ members rule form (child_of key.now (data_of parent.now)) (below place.now key.now))) }
     {
         self.field(rule, Wanted::Optional(Form::List), parent, place, key)?;
-        let place = below(self.alloc, place, key)?;
-        self.members(rule, form, child(parent, key), place.as_str())
+        self.members_at(rule, form, parent, place, key)
     }
 
     /// Each of the fields at these keys is absent or a list whose members have the form.

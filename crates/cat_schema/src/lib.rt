@@ -11,6 +11,7 @@
 #![tactic(auto)]
 
 pub mod faults;
+pub mod field;
 pub mod form;
 pub mod kind;
 pub mod rules;

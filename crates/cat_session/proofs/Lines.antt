@@ -2,7 +2,7 @@
 use Rattle.std.proofs.Common.{◌≡◌, ℕ, List, sym, ap, ◌∙◌, subst}
 use Rattle.std.specs.declared.option.Option.TheVariants.{Some}
 use Rattle.std.specs.Ordering.{nat_cmp}
-use Rattle.cat_types.specs.Table.{Text, find}
+use Rattle.cat_table.specs.Table.{Text, find}
 use Rattle.cat_types.specs.declared.input.Mutation.{Mutation}
 use Rattle.cat_core.specs.declared.ledger.Ledger.{Ledger}
 use Rattle.cat_line.specs.declared.line.Line.TheVariants as asks

@@ -2,7 +2,7 @@
 use Rattle.std.proofs.Common.{◌≡◌, ◌≤◌, ◌+◌, ℕ, List, length, sym, ap, ◌∙◌, subst, option_and_then, Ok, Err}
 use Rattle.std.specs.declared.option.Option.{Option}
 use Rattle.std.specs.declared.option.Option.TheVariants.{None, Some}
-use Rattle.cat_types.specs.Table.{Text}
+use Rattle.cat_table.specs.Table.{Text}
 use Rattle.cat_core.specs.declared.fault.CoreFault.{CoreFault}
 use Rattle.cat_core.specs.declared.fault.CoreFault.TheVariants as core
 use Rattle.cat_core.specs.declared.ledger.Ledger.{Ledger}

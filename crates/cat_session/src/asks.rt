@@ -1,6 +1,6 @@
 //! Questions, with their replies. None changes anything.
 ghost use Rattle.std.specs.Prelude.{◌≡◌, IfOk};
-ghost use Rattle.cat_types.specs.Table.{get};
+ghost use Rattle.cat_table.specs.Table.{get};
 ghost use Rattle.cat_model.specs.Reply as model;
 ghost use Rattle.cat_replies.specs.Events as say;
 ghost use Rattle.cat_replies.specs.Lists as lists;

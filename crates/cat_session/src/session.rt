@@ -1,7 +1,7 @@
 //! A session's state, and its answer to a line.
 ghost use Rattle.std.specs.Prelude.{◌≡◌, ◌<◌, ◌^◌, IfOk, OnErr};
 ghost use Rattle.std.specs.Ordering.{nat_cmp};
-ghost use Rattle.cat_types.specs.Table.{find};
+ghost use Rattle.cat_table.specs.Table.{find};
 ghost use Rattle.cat_line.specs.declared.line.Line.TheVariants.{Clock, Finish, Forget, Mutate, Place, Refresh, ShelfDrop, Stitch, Take};
 ghost use Rattle.cat_line.specs.Ready.{IsReady};
 ghost use Rattle.cat_lines.specs.Word.{AnswersLine};

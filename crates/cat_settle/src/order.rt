@@ -1,6 +1,6 @@
 //! The orders of a settle, and which records are due.
 ghost use Rattle.std.specs.Prelude.{◌≡◌, ◌≤◌, IfOk, ℕ, List, Option, Bool, min, length, option_map, option_and_then};
-ghost use Rattle.cat_types.specs.Table.{get, keys};
+ghost use Rattle.cat_table.specs.Table.{get, keys};
 ghost use Rattle.cat_model.specs.declared.types.Order.{Order as OrderValue};
 ghost use Rattle.cat_model.specs.declared.types.StitchOrder.{StitchOrder as StitchOrderValue};
 ghost use Rattle.cat_model.specs.declared.types.State.{State as StateValue};
@@ -17,8 +17,8 @@ use cat_hold::parts::work_of;
 use cat_links::links::Links;
 use cat_model::types::{Fault, Lease, Order, Progress, Record, State, StitchOrder, Stop};
 use cat_ref::reference::Ref;
+use cat_table::listing::{Copied, Listing};
 use cat_types::parts::Parts;
-use cat_types::table::{Copied, Listing};
 use cat_types::work::Work;
 use std::alloc::{AllocError, Global};
 

@@ -11,7 +11,7 @@ use cat_hold::layers::Layers;
 use cat_links::links::Links;
 use cat_model::types::{Progress, Settings};
 use cat_ref::reference::Ref;
-use cat_types::table::Listing;
+use cat_table::listing::Listing;
 use std::alloc::{AllocError, Global};
 
 // A round over the records that are due, of which there are some.

@@ -1,6 +1,6 @@
 //! The stitches at the end of a settle, in order of ticket.
 ghost use Rattle.std.specs.Prelude.{◌≡◌, IfOk, IfErr, ℕ, List, Option};
-ghost use Rattle.cat_types.specs.Table.{get, keys};
+ghost use Rattle.cat_table.specs.Table.{get, keys};
 ghost use Rattle.cat_model.specs.Settle.{by_ticket, mark_order, marks_in_order, try_event, try_marks, try_stitch_with, try_stitches};
 ghost use Rattle.cat_model.specs.Step.Event.{PutStitch};
 ghost use Rattle.cat_events.specs.Coming.{IsSteady};
@@ -14,7 +14,8 @@ use cat_hold::layers::Layers;
 use cat_links::links::Links;
 use cat_model::types::{Progress, Settings, StitchOrder};
 use cat_ref::reference::Ref;
-use cat_types::table::{Copied, Listing, Table};
+use cat_table::listing::{Copied, Listing};
+use cat_types::table::Table;
 use std::alloc::{AllocError, Global};
 
 // Copies of the marks.

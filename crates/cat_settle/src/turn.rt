@@ -1,6 +1,6 @@
 //! A turn: a record that is due is taken, whatever lease it has, and finished.
 ghost use Rattle.std.specs.Prelude.{◌≡◌, IfOk, IfErr, ℕ, Option, Bool};
-ghost use Rattle.cat_types.specs.Table.{get, keys};
+ghost use Rattle.cat_table.specs.Table.{get, keys};
 ghost use Rattle.cat_links.specs.Links.{Emitted};
 ghost use Rattle.cat_model.specs.Settle.{is_due, order, try_event, try_finish, try_take_and_finish, try_turn, try_turns};
 ghost use Rattle.cat_model.specs.Sound.{AreSmall, Sound};

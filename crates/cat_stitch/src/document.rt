@@ -29,7 +29,7 @@ pub fn document(alloc: Global, parts: &Parts) -> Result<Node, AllocError>
     let relations = relations_shown(alloc, parts.relations.as_slice())?;
     let entity = with_key(alloc, entity, "relations", relations)?;
     let entity = with_status(alloc, parts.issues.as_slice(), entity)?;
-    Ok(Node::new(entity))
+    Node::new(alloc, entity)
 }
 
 // The entity with the metadata that its document shows.

@@ -3,6 +3,7 @@ use crate::issues::{issue_items, issue_name_text, level_text};
 use crate::make::{empty_map, with_words, words};
 use crate::uid::uid;
 use cat_ref::reference::parse;
+use cat_table::listing::Listing;
 use cat_tree::read::read;
 use cat_tree::text::Text;
 use cat_tree::tree::Tree;
@@ -11,7 +12,6 @@ use cat_types::issue::{Issue, IssueName, Level};
 use cat_types::node::Node;
 use cat_types::parts::Parts;
 use cat_types::relation::{RelKind, Relation};
-use cat_types::table::Listing;
 use std::alloc::{AllocError, Global};
 use std::test::Fail;
 
@@ -31,7 +31,7 @@ fn shown(
     issues: Vec<Issue>,
 ) -> Result<Vec<u8>, Fail> {
     let parts = Parts {
-        entity: Node::new(read(alloc, entity.as_bytes())?),
+        entity: Node::new(alloc, read(alloc, entity.as_bytes())?)?,
         number,
         orphan,
         relations: Listing::from_vec(relations),

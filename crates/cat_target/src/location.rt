@@ -6,10 +6,10 @@ ghost use Rattle.std.specs.Prelude.{◌≡◌, ◌++◌, map, option_map, IfOk, 
 ghost use Rattle.std.specs.Option.{option_copied, option_to_list};
 ghost use Rattle.cat_tree.specs.Data.{items_of};
 ghost use Rattle.cat_tree.specs.View.{data_of};
+ghost use Rattle.cat_target.specs.Base.{as_base};
 ghost use Rattle.cat_target.specs.Location as spec;
-ghost use Rattle.cat_target.specs.Shape.{HasTargetFields, ReadsEachText};
 
-use crate::names::name_parts;
+use crate::base::{Base, base_named};
 use cat_tree::ask::{child, grandchild};
 use cat_tree::tree::Tree;
 use std::alloc::{AllocError, Global};
@@ -24,14 +24,6 @@ fn spec_words<'a>(tree: &'a Tree, key: &str) -> Option<&'a str>
         _ => None,
     }
 }
-
-/// Where the fields have the forms that the schema asks for, no text is passed over.
-///
-/// This is a law: the body is empty.
-pub fn reads_each_text(_tree: &Tree)
-    requires { HasTargetFields (data_of _tree.now) }
-    ensures { ReadsEachText (data_of _tree.now) }
-{}
 
 /// The target texts: `spec.target`, if it is there, and then `spec.targets`.
 #[tactic(auto, unfolding(crate::specs::Location::target_texts))]
@@ -108,11 +100,11 @@ fn origin(tree: &Tree) -> Option<&str>
 /// The base of the targets: the annotation `backstage.io/managed-by-location`, cut at the first `:` into type and
 /// target. None where that is no text, or no Location type stands before the `:`, or nothing after it.
 #[tactic(auto, unfolding(crate::specs::Location::base_of))]
-pub fn base_of(tree: &Tree) -> Option<(&str, &str)>
-    ensures { option_map (λ b. (b.0.now, b.1.now)) result ≡ spec.base_of (data_of tree.now) }
+pub fn base_of(tree: &Tree) -> Option<Base<'_>>
+    ensures { option_map as_base result ≡ spec.base_of (data_of tree.now) }
 {
     match origin(tree) {
-        Some(text) => name_parts(text),
+        Some(text) => base_named(text),
         None => None,
     }
 }
@@ -125,7 +117,7 @@ pub fn type_of(tree: &Tree) -> Option<&str>
     match spec_words(tree, "type") {
         Some(kind) => Some(kind),
         None => match base_of(tree) {
-            Some((kind, _)) => Some(kind),
+            Some(base) => Some(base.kind),
             None => None,
         },
     }

@@ -5,26 +5,31 @@ ghost use Rattle.std.specs.Prelude.{◌≡◌, ◌++◌, ◌∷◌, [], map, opt
 ghost use Rattle.std.specs.Option.{option_copied};
 ghost use Rattle.std.specs.Result.{result_ok};
 ghost use Rattle.url.specs.Parser.{Gives, parse_url};
+ghost use Rattle.cat_target.specs.Base.{as_base};
 ghost use Rattle.cat_target.specs.Resolve as spec;
 
-use crate::names::is_shelf_name;
+use crate::base::Base;
+use cat_ref::names::is_shelf_name;
 use cat_tree::text::Text;
 use std::alloc::{AllocError, Global};
 use url::{ParseError, ParseResult, Url};
 
-/// The shelf name that a target of this type has, seen from the base; None where it has none: a URL that doesn't parse or
-/// is given by over 2,048 bytes, a path that leads above the root or to it, or a name that may not stand on the shelf.
+/// The shelf name that a target of this type has, seen from the base, whose URL is given so that it is parsed once for
+/// all targets. None where it has none: a URL that doesn't parse or is given by over 2,048 bytes, a path that leads above
+/// the root or to it, or a name that may not stand on the shelf. The only refusal is want of memory.
 #[tactic(auto, unfolding(crate::specs::Resolve::name_of))]
 pub fn name_of(
     alloc: Global,
-    base: Option<(&str, &str)>,
+    base: Option<Base<'_>>,
+    url: Option<&Url>,
     kind: &str,
     target: &str,
 ) -> Result<Option<Text>, AllocError>
+    requires { option_copied url ≡ spec.base_url (option_map as_base base) }
     ensures { IfOk result (λ name. name
-        ≡ spec.name_of (option_map (λ b. (b.0.now, b.1.now)) base.entry) kind.now target.now) }
+        ≡ spec.name_of (option_map as_base base.entry) kind.now target.now) }
 {
-    match joined_name(alloc, base, kind, target)? {
+    match joined_name(alloc, base, url, kind, target)? {
         Some(name) => {
             if is_shelf_name(name.as_str()) {
                 Ok(Some(name))
@@ -39,15 +44,17 @@ pub fn name_of(
 #[tactic(auto, unfolding(crate::specs::Resolve::joined_name))]
 fn joined_name(
     alloc: Global,
-    base: Option<(&str, &str)>,
+    base: Option<Base<'_>>,
+    url: Option<&Url>,
     kind: &str,
     target: &str,
 ) -> Result<Option<Text>, AllocError>
+    requires { option_copied url ≡ spec.base_url (option_map as_base base) }
     ensures { IfOk result (λ name. name
-        ≡ spec.joined_name (option_map (λ b. (b.0.now, b.1.now)) base.entry) kind.now target.now) }
+        ≡ spec.joined_name (option_map as_base base.entry) kind.now target.now) }
 {
     if kind == "url" {
-        url_name(alloc, base, target)
+        url_name(alloc, url, target)
     } else if kind == "file" {
         file_name(alloc, base, target)
     } else {
@@ -80,14 +87,15 @@ fn parsed(alloc: Global, base: Option<&Url>, text: &str) -> Result<Option<Url>, 
     }
 }
 
+/// The URL of a base of type `url`, where its target parses. The only refusal is want of memory.
 #[tactic(auto, unfolding(crate::specs::Resolve::base_url))]
-fn base_url(alloc: Global, base: Option<(&str, &str)>) -> Result<Option<Url>, AllocError>
-    ensures { IfOk result (λ url. url ≡ spec.base_url (option_map (λ b. (b.0.now, b.1.now)) base.entry)) }
+pub fn base_url(alloc: Global, base: Option<Base<'_>>) -> Result<Option<Url>, AllocError>
+    ensures { IfOk result (λ url. url ≡ spec.base_url (option_map as_base base.entry)) }
 {
     match base {
-        Some((kind, target)) => {
-            if kind == "url" {
-                parsed(alloc, None, target)
+        Some(base) => {
+            if base.kind == "url" {
+                parsed(alloc, None, base.target)
             } else {
                 Ok(None)
             }
@@ -97,19 +105,13 @@ fn base_url(alloc: Global, base: Option<(&str, &str)>) -> Result<Option<Url>, Al
 }
 
 #[tactic(auto, unfolding(crate::specs::Resolve::url_name))]
-fn url_name(
-    alloc: Global,
-    base: Option<(&str, &str)>,
-    target: &str,
-) -> Result<Option<Text>, AllocError>
-    ensures { IfOk result (λ name. name
-        ≡ spec.url_name (option_map (λ b. (b.0.now, b.1.now)) base.entry) target.now) }
+fn url_name(alloc: Global, base: Option<&Url>, target: &str) -> Result<Option<Text>, AllocError>
+    ensures { IfOk result (λ name. name ≡ spec.url_name (option_copied base.entry) target.now) }
 {
     if target.len() > 2048 {
         return Ok(None);
     }
-    let base = base_url(alloc, base)?;
-    match parsed(alloc, base.as_ref(), target)? {
+    match parsed(alloc, base, target)? {
         Some(url) => {
             let mut name = String::from_str(alloc, "url:")?;
             name.push_str(url.as_str())?;
@@ -124,11 +126,11 @@ fn url_name(
 #[tactic(auto, unfolding(crate::specs::Resolve::file_name))]
 fn file_name(
     alloc: Global,
-    base: Option<(&str, &str)>,
+    base: Option<Base<'_>>,
     target: &str,
 ) -> Result<Option<Text>, AllocError>
     ensures { IfOk result (λ name. name
-        ≡ spec.file_name (option_map (λ b. (b.0.now, b.1.now)) base.entry) target.now) }
+        ≡ spec.file_name (option_map as_base base.entry) target.now) }
 {
     let mut path = pieces_before(alloc, base, target)?;
     let own = pieces(alloc, target)?;
@@ -167,16 +169,16 @@ fn walked<'a>(alloc: Global, path: &[&'a str]) -> Result<Option<Vec<&'a str>>, A
 #[tactic(auto, unfolding(crate::specs::Resolve::pieces_before))]
 fn pieces_before<'a>(
     alloc: Global,
-    base: Option<(&'a str, &'a str)>,
+    base: Option<Base<'a>>,
     target: &str,
 ) -> Result<Vec<&'a str>, AllocError>
     ensures { IfOk result (λ v. map (λ p. p.now) v.items
-        ≡ spec.pieces_before (option_map (λ b. (b.0.now, b.1.now)) base.entry) target.now) }
+        ≡ spec.pieces_before (option_map as_base base.entry) target.now) }
 {
     match base {
-        Some((kind, path)) => {
-            if kind == "file" && !target.as_bytes().starts_with(b"/") {
-                pieces_but_last(alloc, path)
+        Some(base) => {
+            if base.kind == "file" && !target.as_bytes().starts_with(b"/") {
+                pieces_but_last(alloc, base.target)
             } else {
                 Ok(Vec::new(alloc))
             }

@@ -2,14 +2,18 @@
 ghost use Rattle.std.specs.Prelude.{◌≡◌, ◌⊎◌, map, option_map, IfOk, IfErr, OnOk, Ok, Err, true, length, ◌≤◌};
 ghost use Rattle.std.specs.List.{list_all};
 ghost use Rattle.cat_tree.specs.View.{data_of};
-ghost use Rattle.cat_target.specs.Resolve.{name_of as the_name};
+ghost use Rattle.cat_target.specs.Base.{as_base};
+ghost use Rattle.cat_target.specs.Resolve.{base_url as the_url, name_of as the_name};
+ghost use Rattle.std.specs.Option.{option_copied};
 ghost use Rattle.cat_target.specs.Targets as spec;
 
+use crate::base::Base;
 use crate::location::{base_of, is_optional, target_texts, type_of};
-use crate::resolve::name_of;
+use crate::resolve::{base_url, name_of};
 use cat_tree::text::Text;
 use cat_tree::tree::Tree;
 use std::alloc::{AllocError, AllocFailed, Global};
+use url::Url;
 
 const MOST_TARGETS: usize = 1000;
 
@@ -79,32 +83,52 @@ pub fn targets(alloc: Global, tree: &Tree) -> Result<Vec<Target>, TargetFault>
         return Ok(Vec::new(alloc));
     }
     match type_of(tree) {
-        Some(kind) => {
-            let names = names_of(alloc, base_of(tree), kind, texts.as_slice())?;
-            let found = as_targets(alloc, names, is_optional(tree))?;
-            Ok(found)
-        }
+        Some(kind) => targets_by_type(alloc, tree, kind, texts.as_slice()),
         None => Err(TargetFault::NoType),
     }
 }
 
-// The name of each text.
+// The targets of a Location of this type with these texts.
+fn targets_by_type(
+    alloc: Global,
+    tree: &Tree,
+    kind: &str,
+    texts: &[&str],
+) -> Result<Vec<Target>, TargetFault>
+    ensures ok { IfOk result (λ v. spec.targets_by_type (data_of tree.now) kind.now
+        (map (λ t. t.now) texts.now) ≡ Ok v.items) }
+    ensures err { IfErr result (λ e. (spec.targets_by_type (data_of tree.now) kind.now
+        (map (λ t. t.now) texts.now) ≡ Err e) ⊎ (e ≡ TargetFault.NoMemory)) }
+    ensures on_shelf { IfOk result (λ v. list_all spec.is_on_shelf v.items ≡ true) }
+    ensures distinct { IfOk result (λ v. spec.are_distinct (map (λ t. t.name) v.items) ≡ true) }
+    ensures few { IfOk result (λ v. length v.items ≤ length texts.now) }
+{
+    let base = base_of(tree);
+    let url = base_url(alloc, base)?;
+    let names = names_of(alloc, base, url.as_ref(), kind, texts)?;
+    let found = as_targets(alloc, names, is_optional(tree))?;
+    Ok(found)
+}
+
+// The name of each text, seen from a base with this URL.
 fn names_of(
     alloc: Global,
-    base: Option<(&str, &str)>,
+    base: Option<Base<'_>>,
+    url: Option<&Url>,
     kind: &str,
     texts: &[&str],
 ) -> Result<Vec<Text>, TargetFault>
+    requires { option_copied url ≡ the_url (option_map as_base base) }
     ensures ok { IfOk result (λ v. spec.names_from
-        (the_name (option_map (λ b. (b.0.now, b.1.now)) base.entry) kind.now) 0
+        (the_name (option_map as_base base.entry) kind.now) 0
         (map (λ t. t.now) texts.now) ≡ Ok v.items) }
     ensures err { IfErr result (λ e. (spec.names_from
-        (the_name (option_map (λ b. (b.0.now, b.1.now)) base.entry) kind.now) 0
+        (the_name (option_map as_base base.entry) kind.now) 0
         (map (λ t. t.now) texts.now) ≡ Err e) ⊎ (e ≡ TargetFault.NoMemory)) }
 {
     let mut names = Vec::new(alloc);
     for (i, text) in texts.iter().enumerate() {
-        match name_of(alloc, base, kind, text)? {
+        match name_of(alloc, base, url, kind, text)? {
             Some(name) => names.push(name)?,
             None => return Err(TargetFault::BadTarget(i)),
         }

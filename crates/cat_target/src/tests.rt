@@ -1,5 +1,3 @@
-use crate::names::is_shelf_name;
-use crate::resolve::name_of;
 use crate::target::{Target, TargetFault, targets};
 use cat_tree::read::read;
 use std::alloc::Global;
@@ -230,20 +228,5 @@ fn bounds_a_text(rt: HostRuntime) -> Result<(), Fail> {
     let more = repeated(rt.alloc(), "a", 2044)?;
     let found = name(rt.alloc(), WEB, "git", more.as_str())?;
     assert_eq!(rt; found.as_str(), "bad 0");
-    Ok(())
-}
-
-#[test]
-fn tells_shelf_names(rt: HostRuntime) -> Result<(), Fail> {
-    assert!(rt; is_shelf_name("a:b"));
-    assert!(rt; is_shelf_name("url:https://example.com/x.json"));
-    let refused: [&str; 6] = ["a:", ":b", "ab", "a b:c", "a:b c", "a:\u{7f}b"];
-    for text in refused.iter() {
-        assert!(rt; !is_shelf_name(text), "{text}");
-    }
-    match name_of(rt.alloc(), Some(("file", "/org/r")), "file", "x")? {
-        Some(found) => assert_eq!(rt; found.as_str(), "file:/org/x"),
-        None => assert!(rt; false),
-    }
     Ok(())
 }

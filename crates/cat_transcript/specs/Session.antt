@@ -6,7 +6,7 @@ use Rattle.std.specs.declared.result.Result.{Result}
 use Rattle.std.specs.declared.result.Result.TheVariants.{Ok, Err}
 use Rattle.std.specs.Ordering.{nat_cmp}
 use Rattle.cat_tree.specs.Data.{Data}
-use Rattle.cat_types.specs.Table.{find, put, get}
+use Rattle.cat_table.specs.Table.{find, put, get}
 use Rattle.cat_transcript.specs.declared.state.SessionState.{SessionState}
 use Rattle.cat_lines.specs.Word.{Word, plain, memory, cut}
 use Rattle.cat_line.specs.Lines.{line_of}

@@ -1,6 +1,7 @@
 //! What contracts see of a session.
 use cat_model::types::{Order, State, StitchOrder};
-use cat_types::table::{Listing, Table};
+use cat_table::listing::Listing;
+use cat_types::table::Table;
 
 /// The catalogue's state, the moment in milliseconds, the orders that were handed out, the oldest first, and the stitch orders
 /// that were handed out, by ticket.

@@ -211,7 +211,7 @@ MembersProper-drop : (k : List ℕ) (ms : Members) → MembersProper ms → Memb
 MembersProper-drop k no_members p = tt
 MembersProper-drop k (member l e ms) p = elim (bytes_eq k l) as (λ c. MembersProper (cond c ms (member l e (drop_member k ms)))) [ true ↦ p.1 | false ↦ (p.0, MembersProper-drop k ms p.1) ]
 
-MembersNarrow-put : (k : List ℕ) (d : Data) (ms : Members) → IsNarrow d → MembersNarrow ms → MembersNarrow (put_member k d ms)
+pub MembersNarrow-put : (k : List ℕ) (d : Data) (ms : Members) → IsNarrow d → MembersNarrow ms → MembersNarrow (put_member k d ms)
 MembersNarrow-put k d no_members h p = (h, tt)
 MembersNarrow-put k d (member l e ms) h p =
     elim (order k l) as (λ o. MembersNarrow (by_order o (member k d (member l e ms)) (member l d ms) (member l e (put_member k d ms)))) [ Less ↦ (h, p) | Equal ↦ (h, p.1) | Greater ↦ (p.0, MembersNarrow-put k d ms h p.1) ]

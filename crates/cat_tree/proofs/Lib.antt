@@ -6,3 +6,5 @@ pub mod Back
 pub mod Puts
 pub mod Edits
 pub mod Narrow
+pub mod Tokens
+pub mod Sizes

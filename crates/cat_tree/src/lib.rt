@@ -1,8 +1,9 @@
 //! Trees: the JSON values (RFC 8259) of the catalogue, whose numbers are whole.
 //!
 //! Everything that the catalogue reads, keeps and writes is a tree: descriptors, bodies of mutations,
-//! stored rows, documents and answers. A tree is read by `serde_json` and written with `json`'s
-//! writer.
+//! stored rows, documents and answers. A tree is read from the tokens of `json`'s reader in one pass, or
+//! by way of `serde_json`'s value where a tree can't hold what is met on the way. It is written with
+//! `json`'s writer, or, where there is room, without memory.
 //!
 //! The promise: the tree of a text is exactly the reading of `serde_json`, and the text of a tree is
 //! its compact text with the keys of each map in byte order; what is written of a tree with numbers
@@ -16,6 +17,8 @@ pub mod ask;
 pub mod clone;
 pub mod edit;
 pub mod read;
+pub mod room;
+mod stream;
 #[cfg(test)]
 mod tests;
 pub mod text;

@@ -1,7 +1,8 @@
 //! From JSON text to a tree.
-ghost use Rattle.std.specs.Prelude.{◌≡◌, ◌≢◌, true, false, map, IfOk, IfSome, IsErrOf};
+ghost use Rattle.std.specs.Prelude.{◌≡◌, ◌≢◌, true, false, Some, None, map, IfOk, IfSome, IsErrOf};
 ghost use Rattle.serde_json.specs.Data.{Data as Json};
 ghost use Rattle.serde_json.specs.Find.{as_integer};
+ghost use Rattle.serde_json.specs.Read.{read as read_text};
 ghost use Rattle.serde_json.specs.View.{number_view, view, items_view, members_view};
 ghost use Rattle.serde_json.specs.Written.{has_float, items_have_float, members_have_float};
 ghost use Rattle.cat_tree.specs.Read.{IsReading, ReadsAs, tree_of};
@@ -10,10 +11,12 @@ ghost use Rattle.cat_tree.specs.View.{data_of, entry_of};
 ghost use Rattle.cat_tree.specs.Data.{IsRising, whole, items_of, members_of};
 ghost use Rattle.cat_tree.specs.Proper.{IsNarrow, ItemsNarrow, MembersNarrow};
 
+use crate::stream::{Stop, read_tokens};
 use crate::text::Text;
 use crate::tree::{Pairs, Tree, Trees};
 use serde_json::{Map, Number, Value};
 use std::alloc::{AllocError, AllocFailed, Global};
+use std::str;
 
 /// Why bytes give no tree.
 #[derive(Clone, Copy, Debug, Drop, PartialEq, Eq)]
@@ -60,7 +63,27 @@ pub fn read(alloc: Global, bytes: &[u8]) -> Result<Tree, TreeFault>
     ensures fraction { IsErrOf result TreeFault.Fraction → (json : Json)
         × IsReading bytes.now json × (has_float json ≡ true) }
 {
-    match Value::from_slice(alloc, bytes) {
+    let Ok(text) = str::from_utf8(bytes) else {
+        return Err(TreeFault::Syntax);
+    };
+    match read_tokens(alloc, text) {
+        Ok(tree) => Ok(tree),
+        Err(Stop::Syntax) => Err(TreeFault::Syntax),
+        Err(Stop::Aside) => read_value(alloc, text),
+        Err(Stop::NoMemory) => Err(TreeFault::NoMemory),
+    }
+}
+
+// The tree of a JSON text, by way of its value.
+fn read_value(alloc: Global, text: &str) -> Result<Tree, TreeFault>
+    ensures ok { IfOk result (λ t. (json : Json) × (read_text text.now ≡ Some json)
+        × (has_float json ≡ false) × (tree_of json ≡ data_of t)) }
+    ensures narrow { IfOk result (λ t. IsNarrow (data_of t)) }
+    ensures syntax { IsErrOf result TreeFault.Syntax → read_text text.now ≡ None }
+    ensures fraction { IsErrOf result TreeFault.Fraction → (json : Json)
+        × (read_text text.now ≡ Some json) × (has_float json ≡ true) }
+{
+    match Value::from_str(alloc, text) {
         Ok(value) => tree_from(alloc, &value),
         Err(e) => {
             if e.is_memory() {
@@ -72,7 +95,6 @@ pub fn read(alloc: Global, bytes: &[u8]) -> Result<Tree, TreeFault>
     }
 }
 
-// The tree of a value that was read, unless it holds a float.
 // The number, if it is an integer of 64 bits.
 fn whole_in(number: &Number) -> Option<i128>
     ensures value { result ≡ as_integer (number_view number.now) }
@@ -87,6 +109,7 @@ fn whole_in(number: &Number) -> Option<i128>
     }
 }
 
+// The tree of a value that was read, unless it holds a float.
 #[cycle(read)]
 fn tree_from(alloc: Global, value: &Value) -> Result<Tree, TreeFault>
     ensures ok { IfOk result (λ t. data_of t ≡ tree_of (view value.now)) }

@@ -2,6 +2,7 @@ use crate::ask::{child, depth, grandchild, same};
 use crate::clone::copy;
 use crate::edit::{with_key, without_key};
 use crate::read::{TreeFault, read};
+use crate::room::{size, write_within};
 use crate::text::Text;
 use crate::tree::{Pairs, Tree, Trees};
 use crate::write::write;
@@ -31,6 +32,43 @@ fn reads_and_writes(rt: HostRuntime) -> Result<(), Fail> {
     for (text, wanted) in cases.iter() {
         let found = rewritten(rt.alloc(), text)?;
         assert_eq!(rt; found.as_slice(), *wanted);
+    }
+    Ok(())
+}
+
+// A map of ninety keys in falling order, each with the value.
+fn falling(alloc: Global, value: &[u8]) -> Result<Vec<u8>, TreeFault> {
+    let mut text = Vec::new(alloc);
+    text.extend_from_slice(b"{\"a\":[")?;
+    text.extend_from_slice(value)?;
+    for tens in (1u8..10).rev() {
+        for ones in (0u8..10).rev() {
+            text.extend_from_slice(b"],\"")?;
+            text.push(b'0' + tens)?;
+            text.push(b'0' + ones)?;
+            text.extend_from_slice(b"\":[")?;
+        }
+    }
+    text.extend_from_slice(b"]}")?;
+    Ok(text)
+}
+
+#[test]
+fn reads_wide_maps(rt: HostRuntime) -> Result<(), Fail> {
+    let tree = read(rt.alloc(), falling(rt.alloc(), b"7")?.as_slice())?;
+    let first = child(&tree, "a").ok_or("no key")?;
+    assert!(rt; same(first, &read(rt.alloc(), b"[7]")?));
+    let last = child(&tree, "10").ok_or("no key")?;
+    assert!(rt; same(last, &read(rt.alloc(), b"[]")?));
+    let wanted: [(&[u8], TreeFault); 2] = [
+        (b"1.5", TreeFault::Fraction),
+        (b"1.", TreeFault::Syntax),
+    ];
+    for (value, fault) in wanted.iter() {
+        match read(rt.alloc(), falling(rt.alloc(), value)?.as_slice()) {
+            Ok(_) => assert!(rt; false),
+            Err(found) => assert_eq!(rt; found, *fault),
+        }
     }
     Ok(())
 }
@@ -93,6 +131,27 @@ fn text_of(alloc: Global, tree: &Tree) -> Result<Vec<u8>, TreeFault> {
     let mut out = Vec::new(alloc);
     write(alloc, tree, &mut out)?;
     Ok(out)
+}
+
+#[test]
+fn writes_within_room(rt: HostRuntime) -> Result<(), Fail> {
+    let cases: [&[u8]; 5] = [
+        b"null",
+        b"[true,false,-12,\"\\u0000\\u001f\\n\\\"\\\\ a\"]",
+        b"[[],{},[0]]",
+        b"{\"\":1,\"a\\t\":{\"b\":[\"c\"]}}",
+        b"18446744073709551615",
+    ];
+    for text in cases.iter() {
+        let tree = read(rt.alloc(), text)?;
+        let length = size(&tree);
+        assert!(rt; length < 1 << 62);
+        let mut out = Vec::with_capacity(rt.alloc(), length as usize)?;
+        write_within(&tree, &mut out);
+        assert_eq!(rt; out.as_slice(), *text);
+        assert_eq!(rt; length, text.len() as u64);
+    }
+    Ok(())
 }
 
 #[test]
@@ -161,13 +220,14 @@ fn holds_lists_and_maps(rt: HostRuntime) -> Result<(), Fail> {
     pairs.insert(Text::of(rt.alloc(), "b")?, Tree::Null)?;
     pairs.insert(Text::of(rt.alloc(), "a")?, Tree::Flag(true))?;
     pairs.remove("b");
+    assert!(rt; !pairs.is_empty() && pairs.len() == 1);
     assert!(rt; pairs.get("b").is_none() && pairs.get("a").is_some());
     let pairs = Pairs::from_vec(pairs.into_vec());
     assert_eq!(rt; pairs.as_slice().len(), 1);
     let mut items = Vec::new(rt.alloc());
     items.push(Tree::Map(pairs))?;
     let trees = Trees::from_vec(items);
-    assert_eq!(rt; trees.len(), 1);
+    assert!(rt; !trees.is_empty() && trees.len() == 1);
     assert_eq!(rt; trees.as_slice().len(), 1);
     assert_eq!(rt; trees.into_vec().len(), 1);
     let text = Text::from_string(String::from_str(rt.alloc(), "a")?);

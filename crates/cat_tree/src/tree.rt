@@ -1,5 +1,5 @@
 //! The type of trees. A tree is one level, whose lists and maps are seen with all that is below them.
-ghost use Rattle.std.specs.Prelude.{◌≡◌, [], length, option_map, bytes_eq, is_ok, if◌then◌else◌, List as ListOf};
+ghost use Rattle.std.specs.Prelude.{◌≡◌, ◌↔◌, [], length, IsTrue, option_map, bytes_eq, is_ok, if◌then◌else◌, List as ListOf};
 ghost use Rattle.std.specs.Ordering.{nat_cmp};
 ghost use Rattle.std.specs.Cmp.Lexicographic.{slice_cmp};
 ghost use Rattle.std.specs.FinMap.Entries.{put};
@@ -107,6 +107,13 @@ impl Trees {
         self.items.len()
     }
 
+    /// Whether there are no trees.
+    pub fn is_empty(&self) -> bool
+        ensures { IsTrue result ↔ (self.now ≡ []) }
+    {
+        self.items.is_empty()
+    }
+
     /// The trees of a vector, whose memory they take over.
     pub fn from_vec(items: Vec<Tree>) -> Trees
         ensures { result ≡ map data_of items.items }
@@ -178,6 +185,20 @@ impl Pairs {
         ensures rising { IsRising self.now }
     {
         self.items.as_slice()
+    }
+
+    /// How many pairs there are.
+    pub fn len(&self) -> usize
+        ensures { result ≡ length self.now }
+    {
+        self.items.len()
+    }
+
+    /// Whether there are no pairs.
+    pub fn is_empty(&self) -> bool
+        ensures { IsTrue result ↔ (self.now ≡ []) }
+    {
+        self.items.is_empty()
     }
 
     /// Puts the tree at its key's place, or in the place of the tree that stands there. Where memory

@@ -1,5 +1,3 @@
-pub mod Table
-pub mod Order
-pub mod Rows
 pub mod Relation
 pub mod Relations
+pub mod Rising

@@ -1,19 +1,20 @@
 //! A tree that contracts see as its data.
-use crate::table::Copied;
+use cat_table::listing::Copied;
 use cat_tree::ask::same;
-use cat_tree::clone::copy;
 use cat_tree::tree::Tree;
 use std::alloc::{AllocError, Global};
 use std::marker::Model;
+use std::sync::Arc;
 
-/// A tree with all that is below it, as data.
+/// A tree with all that is below it, as data. Copies share the tree, so a copy costs no more for a large one.
 #[derive(Drop)]
 pub struct Node {
-    tree: Tree,
+    tree: Arc<Tree, Global>,
 }
 
 impl Model for Node {
     ghost use Rattle.cat_tree.specs.Data.{Data, data_code};
+    ghost use Rattle.std.specs.Arc.{arc_value};
 
     ghost Value = { Data };
 
@@ -21,26 +22,28 @@ impl Model for Node {
 
     ghost use Rattle.cat_tree.specs.View.{data_of};
 
-    ghost view = { λ a. data_of a.tree };
+    ghost view = { λ a. data_of (arc_value a.tree) };
 }
 
 impl Node {
-    ghost use Rattle.std.specs.Prelude.{◌≡◌};
+    ghost use Rattle.std.specs.Prelude.{◌≡◌, IfOk};
     ghost use Rattle.cat_tree.specs.Same.{is_same};
     ghost use Rattle.cat_tree.specs.View.{data_of};
 
-    /// The node of a tree, whose memory it takes over.
-    pub fn new(tree: Tree) -> Node
-        ensures { result ≡ data_of tree }
+    /// The node of a tree, which is moved to where it can be shared.
+    pub fn new(alloc: Global, tree: Tree) -> Result<Node, AllocError>
+        ensures { IfOk result (λ node. node ≡ data_of tree) }
     {
-        Node { tree }
+        Ok(Node {
+            tree: Arc::new(alloc, tree)?,
+        })
     }
 
     /// Lends the tree.
     pub fn tree(&self) -> &Tree
         ensures { data_of result.now ≡ self.now }
     {
-        &self.tree
+        &*self.tree
     }
 
     /// Whether the trees are equal: the same values at the same keys and positions.
@@ -52,9 +55,9 @@ impl Node {
 }
 
 impl Copied for Node {
-    fn duplicate(&self, alloc: Global) -> Result<Node, AllocError> {
+    fn duplicate(&self, _alloc: Global) -> Result<Node, AllocError> {
         Ok(Node {
-            tree: copy(alloc, &self.tree)?,
+            tree: Arc::try_clone(&self.tree)?,
         })
     }
 }

@@ -2,8 +2,8 @@
 ghost use Rattle.std.specs.Prelude.{◌≡◌, IfOk};
 ghost use Rattle.cat_types.specs.Relation.{kind_text};
 
-use crate::table::Copied;
 use cat_ref::reference::Ref;
+use cat_table::listing::Copied;
 use std::alloc::{AllocError, Global};
 
 /// The kind of a relation, by the well-known relations of the Backstage documentation.

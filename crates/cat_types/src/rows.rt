@@ -2,10 +2,10 @@
 ghost use Rattle.std.specs.Prelude.{◌≡◌, ◌+◌, ◌≤◌, ◌++◌, ◌∷◌, [], IfOk, IsTrue, MatchResult, vec_capacity, vec_len, ◌<◌, if◌then◌else◌, is_ok, is_some, length, option_map};
 ghost use Rattle.std.specs.FinMap.Entries.{is_sorted};
 ghost use Rattle.std.specs.Ordering.{ordering_reverse};
-ghost use Rattle.cat_types.specs.Rows.{IsAt, IsBetween, without};
-ghost use Rattle.cat_types.specs.Table.{find, put, puts};
+ghost use Rattle.cat_table.specs.Rows.{IsAt, IsBetween, without};
+ghost use Rattle.cat_table.specs.Table.{find, put, puts};
 
-use crate::table::Key;
+use cat_table::key::Key;
 use std::alloc::AllocError;
 use std::cmp::Ordering;
 use std::mem;

@@ -3,9 +3,11 @@ use crate::issue::{Issue, IssueName, Level};
 use crate::node::Node;
 use crate::parts::Parts;
 use crate::relation::{RelKind, Relation};
-use crate::table::{Copied, Key, Listing, Table};
+use crate::table::Table;
 use crate::work::{Content, Output, Work};
 use cat_ref::reference::{Ref, parse};
+use cat_table::key::Key;
+use cat_table::listing::{Copied, Listing};
 use cat_tree::text::Text;
 use cat_tree::tree::Tree;
 use std::alloc::Global;
@@ -133,7 +135,7 @@ fn copies_parts(rt: HostRuntime) -> Result<(), Fail> {
         message: Text::of(rt.alloc(), "m")?,
     })?;
     let parts = Parts {
-        entity: Node::new(Tree::Flag(true)),
+        entity: Node::new(rt.alloc(), Tree::Flag(true))?,
         number: 7,
         orphan: true,
         relations,
@@ -167,7 +169,7 @@ fn copies_works_and_outputs(rt: HostRuntime) -> Result<(), Fail> {
         body: Some(Text::of(rt.alloc(), "{}")?),
     })?;
     let work = Work {
-        tree: Node::new(Tree::Null),
+        tree: Node::new(rt.alloc(), Tree::Null)?,
         contents,
     };
     for content in work.duplicate(rt.alloc())?.contents.as_slice() {
@@ -177,11 +179,11 @@ fn copies_works_and_outputs(rt: HostRuntime) -> Result<(), Fail> {
     let mut offers = Table::new(rt.alloc());
     let offered = Offered {
         key: Text::of(rt.alloc(), "k")?,
-        tree: Node::new(Tree::Whole(1)),
+        tree: Node::new(rt.alloc(), Tree::Whole(1))?,
     };
     offers.put(reference(rt.alloc(), "a:x")?, offered)?;
     let output = Output {
-        entity: Node::new(Tree::Null),
+        entity: Node::new(rt.alloc(), Tree::Null)?,
         offers,
     };
     let copy = output.duplicate(rt.alloc())?;

@@ -2,8 +2,9 @@
 use crate::input::Offered;
 use crate::issue::Issue;
 use crate::node::Node;
-use crate::table::{Copied, Listing, Table};
+use crate::table::Table;
 use cat_ref::reference::Ref;
+use cat_table::listing::{Copied, Listing};
 use cat_tree::text::Text;
 use std::alloc::{AllocError, Global};
 

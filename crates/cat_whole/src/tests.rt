@@ -37,17 +37,6 @@ fn answer(
 }
 
 #[test]
-fn answers_each_line_once(rt: HostRuntime) -> Result<(), Fail> {
-    let alloc = rt.alloc();
-    for piece in [1, 7, 64, 65536] {
-        let (status, replies) = answer(alloc, OWNED, piece, 0, 0)?;
-        assert_eq!(rt; status, Status(0));
-        assert_eq!(rt; replies.as_slice(), OWNED_REPLIES);
-    }
-    Ok(())
-}
-
-#[test]
 fn ends_where_an_end_fails(rt: HostRuntime) -> Result<(), Fail> {
     let alloc = rt.alloc();
     // The read and the write that fail, the status, and how many bytes of the replies stand.

@@ -1,6 +1,6 @@
 use Rattle.std.proofs.Common.{◌≡◌, drop}
 use Rattle.std.specs.declared.option.Option.TheVariants.{Some}
-use Rattle.cat_types.specs.Table.{first}
+use Rattle.cat_table.specs.Table.{first}
 use Rattle.cat_model.specs.Step.{is_offer}
 use Rattle.cat_claims.proofs.rows.row_by.Given as goal
 

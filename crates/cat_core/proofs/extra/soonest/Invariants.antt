@@ -1,6 +1,6 @@
 use Rattle.std.proofs.Common.{◌≡◌, ◌≤◌, length, drop, option_map}
 use Rattle.std.specs.List.{filter}
-use Rattle.cat_types.specs.Table.{get, keys}
+use Rattle.cat_table.specs.Table.{get, keys}
 use Rattle.cat_model.specs.Step.{earliest, may_take}
 use Rattle.cat_core.proofs.extra.soonest.Given as goal
 

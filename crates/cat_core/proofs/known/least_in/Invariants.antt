@@ -1,6 +1,6 @@
 use Rattle.std.proofs.Common.{◌≡◌, ◌≤◌, length, drop}
 use Rattle.std.specs.Option.{option_map}
-use Rattle.cat_types.specs.Table.{keys, text_cmp}
+use Rattle.cat_table.specs.Table.{keys, text_cmp}
 use Rattle.cat_core.specs.Least.{least}
 use Rattle.cat_core.proofs.known.least_in.Given as goal
 

@@ -1,6 +1,6 @@
 use Rattle.std.proofs.Common.{◌≡◌, ◌≤◌, ◌+◌, length, drop}
 use Rattle.std.specs.List.{filter}
-use Rattle.cat_types.specs.Table.{get, keys}
+use Rattle.cat_table.specs.Table.{get, keys}
 use Rattle.cat_model.specs.Reply.{is_leased}
 use Rattle.cat_core.proofs.questions.count_leased.Given as goal
 

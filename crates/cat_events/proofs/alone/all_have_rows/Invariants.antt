@@ -1,5 +1,5 @@
 use Rattle.std.proofs.Common.{◌≡◌, drop}
-use Rattle.cat_types.specs.Table.{keys}
+use Rattle.cat_table.specs.Table.{keys}
 use Rattle.cat_events.specs.Alone.{have_rows}
 use Rattle.cat_events.proofs.alone.all_have_rows.Given as goal
 

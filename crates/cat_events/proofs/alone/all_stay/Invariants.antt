@@ -1,5 +1,5 @@
 use Rattle.std.proofs.Common.{◌≡◌, drop}
-use Rattle.cat_types.specs.Table.{get}
+use Rattle.cat_table.specs.Table.{get}
 use Rattle.cat_events.specs.Alone.{rows_stay}
 use Rattle.cat_events.proofs.alone.all_stay.Given as goal
 

@@ -1,6 +1,6 @@
 use Rattle.std.proofs.Common.{◌≡◌, ◌++◌, ◌∷◌, [], List, ap, ◌∙◌}
 use Rattle.std.proofs.lemmas.Result.{IfOk-weaker}
-use Rattle.cat_types.specs.Table.{Text, keys}
+use Rattle.cat_table.specs.Table.{Text, keys}
 use Rattle.cat_events.proofs.Resulted.{candidates_are, candidates_rise}
 use Rattle.cat_events.proofs.alone.candidates.Goals as goal
 

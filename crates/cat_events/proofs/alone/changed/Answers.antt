@@ -1,7 +1,7 @@
 use Rattle.std.proofs.Common.{◌≡◌, Bool, ◌||◌, List, ap, ◌∙◌}
 use Rattle.std.specs.List.{filter, list_any}
 use Rattle.std.proofs.lemmas.Result.{IfOk-weaker}
-use Rattle.cat_types.specs.Table.{Text, same_text}
+use Rattle.cat_table.specs.Table.{Text, same_text}
 use Rattle.cat_frame.specs.Linked.{moved}
 use Rattle.cat_model.specs.Step.{with_record}
 use Rattle.cat_events.proofs.Resulted.{alone_changed}

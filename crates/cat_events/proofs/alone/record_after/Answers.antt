@@ -1,6 +1,6 @@
 use Rattle.std.proofs.Common.{sym, ap, ◌∙◌, ◌≡◌}
-use Rattle.cat_types.specs.Table.{get, put, text_antisymmetric, text_cmp, text_total}
-use Rattle.cat_types.proofs.Tables.{find-put_other, find-put_same, same_is}
+use Rattle.cat_table.specs.Table.{get, put, text_antisymmetric, text_cmp, text_total}
+use Rattle.cat_table.proofs.Tables.{find-put_other, find-put_same, same_is}
 use Rattle.cat_events.proofs.alone.record_after.Goals as goal
 
 pub returns-then-is_same : goal.returns-then-is_same

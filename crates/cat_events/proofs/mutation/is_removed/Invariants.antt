@@ -1,6 +1,6 @@
 use Rattle.std.proofs.Common.{◌≡◌, drop}
 use Rattle.std.specs.List.{list_any}
-use Rattle.cat_types.specs.Table.{same_text}
+use Rattle.cat_table.specs.Table.{same_text}
 use Rattle.cat_events.proofs.mutation.is_removed.Given as goal
 
 abbrev pub invariant-loop-other : goal.invariant-loop-other

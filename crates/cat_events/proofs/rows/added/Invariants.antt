@@ -1,5 +1,5 @@
 use Rattle.std.proofs.Common.{◌≡◌, ◌≤◌, ◌+◌, drop}
-use Rattle.cat_types.specs.Table.{get}
+use Rattle.cat_table.specs.Table.{get}
 use Rattle.cat_model.specs.Step.{add_offers}
 use Rattle.cat_events.proofs.rows.added.Given as goal
 

@@ -1,6 +1,6 @@
 use Rattle.std.proofs.Common.{◌≡◌, drop}
 use Rattle.std.specs.List.{list_any}
-use Rattle.cat_types.specs.Table.{keys}
+use Rattle.cat_table.specs.Table.{keys}
 use Rattle.cat_model.specs.Catalogue.{row_at}
 use Rattle.cat_model.specs.Step.{is_offer}
 use Rattle.cat_events.proofs.rows.row_stands.Given as goal

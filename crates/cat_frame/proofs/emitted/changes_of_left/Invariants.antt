@@ -1,6 +1,6 @@
 use Rattle.std.proofs.Common.{◌≡◌, ◌++◌, [], is_none, drop, map}
 use Rattle.std.specs.List.{filter}
-use Rattle.cat_types.specs.Table.{get, keys}
+use Rattle.cat_table.specs.Table.{get, keys}
 use Rattle.cat_frame.specs.Linked.{left_changes}
 use Rattle.cat_frame.proofs.emitted.changes_of_left.Given as goal
 

@@ -1,5 +1,5 @@
 use Rattle.std.proofs.Common.{◌≡◌, ◌+◌, drop}
-use Rattle.cat_types.specs.Table.{place, text_cmp}
+use Rattle.cat_table.specs.Table.{place, text_cmp}
 use Rattle.cat_frame.proofs.records.place_of.Given as goal
 
 abbrev pub invariant-loop-other : goal.invariant-loop-other

@@ -1,6 +1,6 @@
 use Rattle.std.proofs.Common.{◌≡◌, take}
 use Rattle.std.specs.List.{flat_map}
-use Rattle.cat_types.specs.Table.{keys}
+use Rattle.cat_table.specs.Table.{keys}
 use Rattle.cat_fresh.proofs.documents.gathered.Given as goal
 
 abbrev pub invariant-loop-reference : goal.invariant-loop-reference

@@ -1,5 +1,5 @@
 use Rattle.std.proofs.Common.{◌≡◌, drop}
-use Rattle.cat_types.specs.Table.{first}
+use Rattle.cat_table.specs.Table.{first}
 use Rattle.cat_hold.proofs.build.first_of.Given as goal
 
 abbrev pub invariant-loop-key : goal.invariant-loop-key

@@ -1,5 +1,5 @@
 use Rattle.std.proofs.Common.{◌≡◌, ◌≤◌, length, drop}
-use Rattle.cat_types.specs.Table.{tabulate}
+use Rattle.cat_table.specs.Table.{tabulate}
 use Rattle.cat_hold.proofs.build.from_the_end.Given as goal
 
 abbrev pub invariant-loop-left : goal.invariant-loop-left

@@ -1,7 +1,7 @@
 use Rattle.std.proofs.Common.{ap, sym, ◌∙◌, ◌++◌, [], rules, ℕ}
 use Rattle.std.specs.declared.option.Option.{Option}
 use Rattle.std.specs.List.{cons_option}
-use Rattle.cat_types.specs.Table.{Text, get}
+use Rattle.cat_table.specs.Table.{Text, get}
 use Rattle.cat_hold.proofs.Lists.{filter_keys_more}
 use Rattle.cat_hold.proofs.hold.arrivals_of.Goals as goal
 

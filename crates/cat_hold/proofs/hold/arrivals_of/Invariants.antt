@@ -1,6 +1,6 @@
 use Rattle.std.proofs.Common.{◌≡◌, take}
 use Rattle.std.specs.List.{filter_map}
-use Rattle.cat_types.specs.Table.{get, keys}
+use Rattle.cat_table.specs.Table.{get, keys}
 use Rattle.cat_hold.proofs.hold.arrivals_of.Given as goal
 
 abbrev pub invariant-loop-reference : goal.invariant-loop-reference

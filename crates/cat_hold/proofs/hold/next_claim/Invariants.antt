@@ -1,5 +1,5 @@
 use Rattle.std.proofs.Common.{◌≡◌, ◌≤◌, ◌-◌, length, drop}
-use Rattle.cat_types.specs.Table.{first}
+use Rattle.cat_table.specs.Table.{first}
 use Rattle.cat_model.specs.Catalogue.{claims, row_at}
 use Rattle.cat_hold.proofs.hold.next_claim.Given as goal
 

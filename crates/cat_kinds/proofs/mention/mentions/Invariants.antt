@@ -1,6 +1,6 @@
 use Rattle.std.proofs.Common.{◌≡◌, ◌++◌, map, drop}
 use Rattle.cat_tree.specs.View.{data_of}
-use Rattle.cat_kinds.specs.Fields.{row_of}
+use Rattle.cat_schema.specs.Fields.{row_of}
 use Rattle.cat_kinds.specs.Mentions.{mention_of, mentions_by_each}
 use Rattle.cat_kinds.proofs.mention.mentions.Given as goal
 

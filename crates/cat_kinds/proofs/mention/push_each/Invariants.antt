@@ -1,7 +1,7 @@
 use Rattle.std.proofs.Common.{◌≡◌, ◌++◌, map, drop}
 use Rattle.cat_tree.specs.Data.{items_of}
 use Rattle.cat_tree.specs.View.{data_of}
-use Rattle.cat_kinds.specs.Fields.{row_of}
+use Rattle.cat_schema.specs.Fields.{row_of}
 use Rattle.cat_kinds.specs.Mentions.{mention_of, mentions_among}
 use Rattle.cat_kinds.proofs.mention.push_each.Given as goal
 

@@ -2,7 +2,7 @@ use Rattle.std.proofs.Common.{rules, ◌∙◌}
 use Rattle.std.specs.Ordering.{ordering_reverse}
 use Rattle.std.proofs.lemmas.Fn.{always_returns_same}
 use Rattle.cat_types.specs.Relation.{relation_cmp}
-use Rattle.cat_types.proofs.Placed.{found_in}
+use Rattle.cat_table.proofs.Placed.{found_in}
 use Rattle.cat_types.specs.Relations.{relation_total}
 use Rattle.cat_links.proofs.moved.is_among.Goals as goal
 

@@ -3,8 +3,8 @@ use Rattle.std.proofs.Math.Seq.{take-length}
 use Rattle.std.proofs.lemmas.Bool.{ltb-true, ltb-false}
 use Rattle.std.specs.Bool.{⊤}
 use Rattle.std.specs.declared.option.Option.{Option}
-use Rattle.cat_types.specs.Table.{Text}
-use Rattle.cat_types.proofs.Tables.{text_total}
+use Rattle.cat_table.specs.Table.{Text}
+use Rattle.cat_table.proofs.Tables.{text_total}
 use Rattle.cat_marks.specs.declared.answers.Marked.{Marked}
 use Rattle.cat_marks.specs.Marks.{HasNoneAfter, IsNextAfter}
 use Rattle.cat_marks.proofs.Entries.{find-take_more, holds, none_yet}

@@ -1,6 +1,6 @@
 use Rattle.std.proofs.Common.{ap, sym, ◌∙◌, rules}
-use Rattle.cat_types.specs.Table.{put, text_cmp}
-use Rattle.cat_types.proofs.Puts.{put_equal}
+use Rattle.cat_table.specs.Table.{put, text_cmp}
+use Rattle.cat_table.proofs.Puts.{put_equal}
 use Rattle.cat_marks.proofs.places.put_mark.Goals as goal
 
 pub returns-in-Equal-clause-items : goal.returns-in-Equal-clause-items

@@ -1,5 +1,5 @@
 use Rattle.std.proofs.Common.{◌≡◌, ◌++◌, ◌-◌, ◌≤◌, length, take, drop}
-use Rattle.cat_types.specs.Table.{put, text_cmp}
+use Rattle.cat_table.specs.Table.{put, text_cmp}
 use Rattle.cat_marks.proofs.places.put_mark.Given as goal
 
 -- the references before the place are smaller

@@ -1,5 +1,5 @@
 use Rattle.std.proofs.Common.{ap, sym, ◌∙◌}
-use Rattle.cat_types.specs.Table.{get}
+use Rattle.cat_table.specs.Table.{get}
 use Rattle.cat_marks.proofs.Marking.{removed, without_absent}
 use Rattle.cat_marks.proofs.places.remove_mark.Goals as goal
 

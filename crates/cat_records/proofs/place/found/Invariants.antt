@@ -1,5 +1,5 @@
 use Rattle.std.proofs.Common.{◌≡◌, drop}
-use Rattle.cat_types.specs.Table.{get}
+use Rattle.cat_table.specs.Table.{get}
 use Rattle.cat_records.proofs.place.found.Given as goal
 
 -- what is found is found in what is left

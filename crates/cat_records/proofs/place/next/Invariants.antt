@@ -1,5 +1,5 @@
 use Rattle.std.proofs.Common.{◌≡◌, drop, option_map}
-use Rattle.cat_types.specs.Table.{first, keys}
+use Rattle.cat_table.specs.Table.{first, keys}
 use Rattle.cat_records.specs.Register.{comes_after}
 use Rattle.cat_records.proofs.place.next.Given as goal
 

@@ -1,4 +1,4 @@
-use Rattle.cat_types.proofs.Tables.{none_or_some}
+use Rattle.cat_table.proofs.Tables.{none_or_some}
 use Rattle.cat_repeats.proofs.Again.{old_line, lines_above, once}
 use Rattle.cat_repeats.proofs.once.repeated_lines_act_once.Goals as goal
 

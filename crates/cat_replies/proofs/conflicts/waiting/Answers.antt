@@ -1,5 +1,5 @@
 use Rattle.std.proofs.Common.{◌≡◌, suc, ◌-◌, arith, ap, map, ◌∙◌}
-use Rattle.cat_types.specs.Table.{put_some}
+use Rattle.cat_table.specs.Table.{put_some}
 use Rattle.cat_model.specs.Catalogue.{row_at}
 use Rattle.cat_model.specs.Reply.{RowPlace, place_cmp, waits}
 use Rattle.cat_replies.specs.Shown as seen

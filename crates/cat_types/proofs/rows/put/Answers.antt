@@ -1,6 +1,6 @@
 use Rattle.std.proofs.Common.{◌∙◌, subst}
-use Rattle.cat_types.specs.Rows.{IsAt, IsBetween}
-use Rattle.cat_types.proofs.Placed.{put_at, put_between}
+use Rattle.cat_table.specs.Rows.{IsAt, IsBetween}
+use Rattle.cat_table.proofs.Placed.{put_at, put_between}
 use Rattle.cat_types.proofs.rows.put.Goals as goal
 
 pub returns-in-Ok : goal.returns-in-Ok

@@ -1,8 +1,8 @@
 use Rattle.std.proofs.Common.{◌≡◌, ◌+◌, ◌≤◌, ap, sym, ◌∙◌, arith, vec_capacity, vec_len}
 use Rattle.std.specs.FinMap.Entries.{is_sorted}
 use Rattle.std.specs.Vec.Iter.{into_iter_items, into_iter_len}
-use Rattle.cat_types.specs.Table.{puts}
-use Rattle.cat_types.proofs.Rising.{put_rises}
+use Rattle.cat_table.specs.Table.{puts}
+use Rattle.cat_table.proofs.Rising.{put_rises}
 use Rattle.cat_types.proofs.rows.put_all.Goals as goal
 
 pub loop-key-preserved : goal.loop-key-preserved

@@ -1,7 +1,7 @@
 use Rattle.std.proofs.Common.{◌≡◌, ◌+◌, ◌≤◌, true, vec_capacity, vec_len}
 use Rattle.std.specs.FinMap.Entries.{is_sorted}
 use Rattle.std.specs.Vec.Iter.{into_iter_items, into_iter_len}
-use Rattle.cat_types.specs.Table.{puts}
+use Rattle.cat_table.specs.Table.{puts}
 use Rattle.cat_types.proofs.rows.put_all.Given as goal
 
 -- there is room for the rows that are left, and with them put the rows are those wanted

@@ -1,6 +1,6 @@
 use Rattle.std.proofs.Common.{ap, sym, ◌∙◌, rules}
-use Rattle.cat_types.specs.Table.{put}
-use Rattle.cat_types.proofs.Puts.{put_equal}
+use Rattle.cat_table.specs.Table.{put}
+use Rattle.cat_table.proofs.Puts.{put_equal}
 use Rattle.cat_types.proofs.rows.put_in_turn.Goals as goal
 
 pub returns-in-Equal : goal.returns-in-Equal

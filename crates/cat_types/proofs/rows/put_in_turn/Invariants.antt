@@ -1,5 +1,5 @@
 use Rattle.std.proofs.Common.{◌≡◌, ◌++◌, ◌-◌, ◌≤◌, length, take, drop}
-use Rattle.cat_types.specs.Table.{put}
+use Rattle.cat_table.specs.Table.{put}
 use Rattle.cat_types.proofs.rows.put_in_turn.Given as goal
 
 -- the keys before the place are smaller

@@ -1,6 +1,6 @@
 use Rattle.std.proofs.Common.{subst, rules}
-use Rattle.cat_types.specs.Rows.{IsAt, IsBetween}
-use Rattle.cat_types.proofs.Placed.{put_at, put_between}
+use Rattle.cat_table.specs.Rows.{IsAt, IsBetween}
+use Rattle.cat_table.proofs.Placed.{put_at, put_between}
 use Rattle.cat_types.proofs.rows.put_with_room.Goals as goal
 
 pub returns-in-Ok-clause-items : goal.returns-in-Ok-clause-items

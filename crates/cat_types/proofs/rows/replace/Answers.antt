@@ -1,9 +1,9 @@
 use Rattle.std.proofs.Common.{ap, ◌∙◌, subst, is_some, if◌then◌else◌}
 use Rattle.std.specs.declared.option.Option.TheVariants.{Some}
 use Rattle.std.proofs.Math.ListN.{set}
-use Rattle.cat_types.specs.Rows.{IsAt, IsBetween}
-use Rattle.cat_types.specs.Table.{put}
-use Rattle.cat_types.proofs.Placed.{put_at, find_at, find_between}
+use Rattle.cat_table.specs.Rows.{IsAt, IsBetween}
+use Rattle.cat_table.specs.Table.{put}
+use Rattle.cat_table.proofs.Placed.{put_at, find_at, find_between}
 use Rattle.cat_types.proofs.rows.replace.Goals as goal
 
 pub returns-in-Ok-clause-value : goal.returns-in-Ok-clause-value

@@ -1,7 +1,7 @@
 use Rattle.std.proofs.Common.{◌≡◌, ◌+◌, ◌-◌, ◌<◌, arith, length, sym, ap, ◌∙◌, rules, ◌&&◌, get_or, true, false, drop}
 use Rattle.std.specs.FinMap.Entries.{is_sorted}
 use Rattle.std.specs.Ordering.{is_lt}
-use Rattle.cat_types.proofs.Rising.{rises_at, rises_last}
+use Rattle.cat_table.proofs.Rising.{rises_at, rises_last}
 use Rattle.cat_types.proofs.rows.rise.Goals as goal
 
 pub loop-place-preserved : goal.loop-place-preserved

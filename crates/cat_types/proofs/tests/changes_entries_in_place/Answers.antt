@@ -2,8 +2,8 @@ use Rattle.std.proofs.Common.{◌≡◌, ap, ◌∙◌, refl, is_some}
 use Rattle.std.specs.Cmp.{nat_cmp_total}
 use Rattle.std.specs.Ordering.{nat_cmp}
 use Rattle.std.specs.FinMap.Entries.{is_sorted}
-use Rattle.cat_types.specs.Table.{find}
-use Rattle.cat_types.proofs.Rising.{put_if_rises, puts_rise}
+use Rattle.cat_table.specs.Table.{find}
+use Rattle.cat_table.proofs.Rising.{put_if_rises, puts_rise}
 use Rattle.cat_types.proofs.tests.changes_entries_in_place.Goals as goal
 
 pub replace-requires : goal.replace-requires

@@ -1,5 +1,5 @@
 use Rattle.std.proofs.Common.{ap, sym, subst, ◌∙◌, arith}
-use Rattle.cat_types.specs.Table.{get}
+use Rattle.cat_table.specs.Table.{get}
 use Rattle.cat_marks.specs.Marks.{AreMarks}
 use Rattle.cat_marks.specs.Kept.{marks_of}
 use Rattle.cat_marks.proofs.Marking.{without_absent, without_gone, without_mark_kept}

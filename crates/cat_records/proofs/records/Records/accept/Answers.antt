@@ -1,5 +1,5 @@
 use Rattle.std.proofs.Common.{◌∙◌, ap, sym, arith}
-use Rattle.cat_types.specs.Table.{get}
+use Rattle.cat_table.specs.Table.{get}
 use Rattle.cat_records.specs.Seen.{seen}
 use Rattle.cat_records.proofs.Kept.{free_sound}
 use Rattle.cat_records.proofs.records.Records.accept.Goals as goal

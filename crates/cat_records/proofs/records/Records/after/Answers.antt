@@ -1,7 +1,7 @@
 use Rattle.std.proofs.Common.{◌∙◌, ap, subst}
 use Rattle.std.specs.Prelude.{IfSome}
 use Rattle.std.specs.Option.{option_map}
-use Rattle.cat_types.specs.Table.{first, keys}
+use Rattle.cat_table.specs.Table.{first, keys}
 use Rattle.cat_records.specs.Register.{Register, IsKnown, comes_after}
 use Rattle.cat_records.specs.Seen.{seen}
 use Rattle.cat_records.proofs.Named.{next_there}

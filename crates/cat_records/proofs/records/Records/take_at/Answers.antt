@@ -2,7 +2,7 @@ use Rattle.std.proofs.Common.{◌≡◌, ◌+◌, ◌≤◌, ◌∙◌, ap, fals
 use Rattle.std.specs.Prelude.{IsSomeAnd}
 use Rattle.std.specs.declared.option.Option.{Option}
 use Rattle.std.specs.declared.option.Option.TheVariants.{Some}
-use Rattle.cat_types.specs.Table.{get, put, text_cmp}
+use Rattle.cat_table.specs.Table.{get, put, text_cmp}
 use Rattle.cat_records.specs.declared.view.RecordView.{RecordView}
 use Rattle.cat_records.specs.Register.{Register, IsDue, view_at}
 use Rattle.cat_records.specs.Seen.{seen}

@@ -1,6 +1,6 @@
 use Rattle.std.proofs.Common.{ap, ◌∙◌}
 use Rattle.std.specs.FinMap.Entries.{is_sorted}
-use Rattle.cat_types.proofs.Rising.{rise_is}
+use Rattle.cat_types.proofs.Known.{rise_is}
 use Rattle.cat_types.proofs.table.Table.from_vec.Goals as goal
 
 pub invariant_of-result : goal.invariant_of-result

@@ -1,6 +1,7 @@
 use Rattle.std.proofs.Common.{ap, ◌∙◌, is_ok}
 use Rattle.std.specs.FinMap.Entries.{is_sorted}
-use Rattle.cat_types.proofs.Rising.{put_if_rises, rise_where, rises_where}
+use Rattle.cat_types.proofs.Known.{rise_where, rises_where}
+use Rattle.cat_table.proofs.Rising.{put_if_rises}
 use Rattle.cat_types.proofs.table.Table.put.Goals as goal
 
 pub invariant_of-self : goal.invariant_of-self

@@ -1,6 +1,7 @@
 use Rattle.std.proofs.Common.{ap, ◌∙◌, is_ok}
 use Rattle.std.specs.FinMap.Entries.{is_sorted}
-use Rattle.cat_types.proofs.Rising.{puts_if_rise, rise_where}
+use Rattle.cat_types.proofs.Known.{rise_where}
+use Rattle.cat_table.proofs.Rising.{puts_if_rise}
 use Rattle.cat_types.proofs.table.Table.put_all.Goals as goal
 
 pub invariant_of-self : goal.invariant_of-self

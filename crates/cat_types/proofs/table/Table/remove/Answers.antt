@@ -1,6 +1,7 @@
 use Rattle.std.proofs.Common.{ap, ◌∙◌}
 use Rattle.std.specs.FinMap.Entries.{is_sorted}
-use Rattle.cat_types.proofs.Rising.{rise_where, without_rises}
+use Rattle.cat_types.proofs.Known.{rise_where}
+use Rattle.cat_table.proofs.Rising.{without_rises}
 use Rattle.cat_types.proofs.table.Table.remove.Goals as goal
 
 pub invariant_of-self : goal.invariant_of-self

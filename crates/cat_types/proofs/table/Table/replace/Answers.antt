@@ -1,7 +1,8 @@
 use Rattle.std.proofs.Common.{ap, ◌∙◌, is_some}
 use Rattle.std.specs.FinMap.Entries.{is_sorted}
-use Rattle.cat_types.specs.Table.{find}
-use Rattle.cat_types.proofs.Rising.{put_if_rises, rise_where}
+use Rattle.cat_table.specs.Table.{find}
+use Rattle.cat_types.proofs.Known.{rise_where}
+use Rattle.cat_table.proofs.Rising.{put_if_rises}
 use Rattle.cat_types.proofs.table.Table.replace.Goals as goal
 
 pub invariant_of-self : goal.invariant_of-self

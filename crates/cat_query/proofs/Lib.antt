@@ -1,0 +1,5 @@
+pub mod Ordered
+pub mod Kept
+pub mod Parted
+pub mod Spelled
+pub mod Counted

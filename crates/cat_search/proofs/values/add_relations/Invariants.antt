@@ -1,0 +1,11 @@
+use Rattle.std.proofs.Common.{◌≡◌, ◌++◌, map, drop}
+use Rattle.cat_tree.specs.Data.{items_of}
+use Rattle.cat_tree.specs.View.{data_of}
+use Rattle.cat_search.specs.Rows.{relation_items, values_at}
+use Rattle.cat_search.proofs.values.add_relations.Given as goal
+
+-- the values so far and those that are left are all
+abbrev pub invariant-loop-relation : goal.invariant-loop-relation
+invariant-loop-relation l =
+    l.values.items ++ values_at l.key (relation_items (items_of (map data_of (drop l.relation-index l.relation-items))))
+    ≡ l.fn.values.items ++ values_at l.key (relation_items (items_of (map data_of l.relation-items)))

@@ -1,0 +1,69 @@
+//! Worked filters over documents.
+use crate::condition::{Filter, FilterFault};
+use crate::matches::matches;
+use crate::read::read_filter;
+use cat_tree::read::read;
+use std::test::Fail;
+
+const WEB: &[u8] =
+    b"{\"kind\":\"Component\",\"metadata\":{\"labels\":{\"a.b/c\":\"X\"},\"name\":\"Web\",\"tags\":[\"java\",[\"deep\",7],null]},\"relations\":[{\"targetRef\":\"group:default/team-a\",\"type\":\"ownedBy\"},7],\"spec\":{\"lifecycle\":\"\",\"n\":-12,\"ok\":true,\"type\":\"service\"},\"status\":{\"items\":[]}}";
+
+#[test]
+fn accepts(rt: HostRuntime) -> Result<(), Fail> {
+    let document = read(rt.alloc(), WEB)?;
+    let cases: [(&str, bool); 27] = [
+        ("", true),
+        (" , ,", true),
+        ("kind", true),
+        ("KIND=component", true),
+        ("kind=component,spec.type=service,spec.type=website", true),
+        ("kind=component,spec.type=website", false),
+        ("spec.type=website, spec.type=service ,kind", true),
+        ("metadata.tags.java", true),
+        ("metadata.tags=java", true),
+        ("metadata.tags.java=true", true),
+        ("metadata.tags.java=yes", false),
+        ("metadata.tags.deep", true),
+        ("metadata.tags.7", false),
+        ("metadata.tags=7", true),
+        ("metadata.labels.a.b/c=x", true),
+        ("metadata.labels", false),
+        ("metadata", false),
+        ("metadata.", false),
+        (".kind", false),
+        ("spec.lifecycle=", true),
+        ("spec.type=", false),
+        ("spec.n=-12", true),
+        ("spec.ok=TRUE", true),
+        ("relations.ownedby=group:default/team-a", true),
+        ("relations.targetRef", false),
+        ("status.items", false),
+        ("kind=a=b", false),
+    ];
+    for (text, wanted) in cases.iter() {
+        let filter = read_filter(rt.alloc(), text)?;
+        assert_eq!(rt; matches(&filter, &document), *wanted, "{text}");
+    }
+    Ok(())
+}
+
+fn fault_of(filter: Result<Filter, FilterFault>) -> Option<FilterFault> {
+    match filter {
+        Ok(_) => None,
+        Err(fault) => Some(fault),
+    }
+}
+
+#[test]
+fn refuses(rt: HostRuntime) {
+    let cases: [(&str, Option<FilterFault>); 5] = [
+        ("kind,=x", Some(FilterFault::EmptyKey(1))),
+        ("=", Some(FilterFault::EmptyKey(0))),
+        (",, =x,=y", Some(FilterFault::EmptyKey(2))),
+        ("a==", None),
+        ("a,b=,c", None),
+    ];
+    for (text, wanted) in cases.iter() {
+        assert_eq!(rt; fault_of(read_filter(rt.alloc(), text)), *wanted, "{text}");
+    }
+}

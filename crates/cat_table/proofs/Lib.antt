@@ -1,0 +1,11 @@
+pub mod Heights
+pub mod Nodes
+pub mod Orders
+pub mod Placed
+pub mod Places
+pub mod Puts
+pub mod Rising
+pub mod Searched
+pub mod Sides
+pub mod Tables
+pub mod Taken

@@ -1,0 +1,13 @@
+pub mod Boxed
+pub mod BoxedFalls
+pub mod BoxedLeft
+pub mod BoxedParts
+pub mod Left
+pub mod Order
+pub mod Pairs
+pub mod Parts
+pub mod Places
+pub mod Rows
+pub mod Table
+pub mod Tree
+pub mod TreeFalls

@@ -1,0 +1,674 @@
+//! Lists kept as balanced trees, whose copies share their parts.
+ghost use Rattle.std.specs.Prelude.{◌≡◌, ◌+◌, ◌*◌, ◌^◌, ◌<◌, ◌≤◌, ◌∷◌, ◌++◌, [], length, drop, if◌then◌else◌, is_ok, IfOk, IsTrue, MatchResult, OnOk, option_map, slice_get, slice_set};
+ghost use Rattle.std.specs.FinMap.Entries.{is_sorted};
+ghost use Rattle.cat_table.specs.Rows.{IsAt, IsBetween};
+ghost use Rattle.cat_table.specs.Table.{find};
+ghost use Rattle.std.specs.List.{fold, insert, remove};
+ghost use Rattle.std.specs.Arc.{arc_value};
+ghost use Rattle.std.specs.Iterator.{YieldsFirstRef, item_count};
+ghost use Rattle.cat_table.specs.Parts.{IsBalanced, first_of, parted};
+ghost use Rattle.cat_table.specs.Left.{items_left};
+ghost use Rattle.cat_table.specs.Tree.{Balance, NearBalance};
+
+use crate::key::{Key, Seek};
+use std::alloc::{AllocError, Global};
+use std::cmp::Ordering;
+use std::marker::Model;
+use std::sync::Arc;
+
+/// A tree has at most this many items.
+pub const MOST: usize = 0x3fff_ffff_ffff_ffff;
+
+/// Items in order. Contracts see the list of them. A copy shares all items with what it was made of.
+#[cycle(tree)]
+#[derive(Drop)]
+pub struct Tree<A> {
+    node: Node<A>,
+}
+
+#[cycle(tree)]
+#[derive(Drop)]
+enum Node<A> {
+    Leaf,
+    Fork(Arc<Fork<A>, Global>),
+}
+
+#[cycle(tree)]
+#[derive(Drop)]
+struct Fork<A> {
+    left: Tree<A>,
+    item: Arc<A, Global>,
+    right: Tree<A>,
+    size: usize,
+}
+
+// What a tree that is not empty is made of.
+#[derive(Drop)]
+struct Parts<A> {
+    left: Tree<A>,
+    item: Arc<A, Global>,
+    right: Tree<A>,
+}
+
+impl<A> Model for Tree<A> {
+    ghost use Rattle.std.specs.Prelude.{List, length};
+
+    ghost Value = { List A };
+
+    ghost use Rattle.cat_table.specs.Tree.{items, IsSized};
+
+    ghost view = { λ a. items a.node };
+
+    ghost invariant = { λ a. IsSized a.node };
+
+    ghost size = { length };
+
+    ghost use Rattle.cat_table.specs.TreeFalls.{depth_le-length};
+
+    ghost size_decreases = { λ a h. depth_le-length A a.node };
+}
+
+impl<A> Tree<A> {
+    /// No items. Takes no memory.
+    pub fn new() -> Tree<A>
+        ensures { result ≡ [] }
+    {
+        Tree { node: Node::Leaf }
+    }
+
+    /// How many items there are.
+    pub fn len(&self) -> usize
+        ensures items { result ≡ length self.now }
+        ensures most { result ≤ MOST }
+    {
+        match &self.node {
+            Node::Leaf => 0,
+            Node::Fork(fork) => fork.size,
+        }
+    }
+
+    /// Lends the item at a place as the tree keeps it, to share it with others.
+    pub fn get_shared(&self, place: usize) -> Option<&Arc<A, Global>>
+        ensures { option_map (λ x. arc_value x.now) result ≡ slice_get self.now place }
+    {
+        match &self.node {
+            Node::Leaf => None,
+            Node::Fork(fork) => {
+                let before = fork.left.len();
+                if place < before {
+                    fork.left.get_shared(place)
+                } else if place == before {
+                    Some(&fork.item)
+                } else {
+                    fork.right.get_shared(place - before - 1)
+                }
+            }
+        }
+    }
+
+    /// Lends the item at a place.
+    pub fn get(&self, place: usize) -> Option<&A>
+        ensures { option_map (λ x. x.now) result ≡ slice_get self.now place }
+    {
+        match &self.node {
+            Node::Leaf => None,
+            Node::Fork(fork) => {
+                let before = fork.left.len();
+                if place < before {
+                    fork.left.get(place)
+                } else if place == before {
+                    Some(&*fork.item)
+                } else {
+                    fork.right.get(place - before - 1)
+                }
+            }
+        }
+    }
+}
+
+/// What goes over items in order.
+pub trait Visit<A> {
+    /// What it is after an item.
+    ghost after: { Self → A → Self };
+
+    /// Takes an item.
+    fn visit(&mut self, item: &A) -> Result<(), AllocError>
+        ensures { OnOk result (self.new ≡ after self.old item.now) };
+}
+
+impl<A> Tree<A> {
+    /// Shows each item to a visitor, in order, until it answers that memory is wanted.
+    pub fn visit<V: Visit<A>>(&self, visitor: &mut V) -> Result<(), AllocError>
+        ensures { OnOk result (visitor.new ≡ fold V.after visitor.old self.now) }
+    {
+        match &self.node {
+            Node::Leaf => Ok(()),
+            Node::Fork(fork) => {
+                fork.left.visit(visitor)?;
+                visitor.visit(&fork.item)?;
+                fork.right.visit(visitor)
+            }
+        }
+    }
+}
+
+impl<K: Key, X> Tree<(K, X)> {
+    /// The place of a key; where it is absent, the place where it would be.
+    pub fn search<S: Seek<K>>(&self, key: &S) -> Result<usize, usize>
+        requires { IsTrue (is_sorted K.order self.now) }
+        ensures { MatchResult result (IsAt K.order (S.sought key.now) self.now) (IsBetween K.order (S.sought key.now) self.now) }
+    {
+        match &self.node {
+            Node::Leaf => Err(0),
+            Node::Fork(fork) => {
+                let fork: &Fork<(K, X)> = fork;
+                let entry: &(K, X) = &fork.item;
+                match key.compare_with(&entry.0) {
+                    Ordering::Less => fork.left.search(key),
+                    Ordering::Equal => Ok(fork.left.len()),
+                    Ordering::Greater => {
+                        let before = fork.left.len() + 1;
+                        match fork.right.search(key) {
+                            Ok(place) => Ok(before + place),
+                            Err(place) => Err(before + place),
+                        }
+                    }
+                }
+            }
+        }
+    }
+
+    /// Lends the value at a key; none where the key is absent.
+    pub fn find<S: Seek<K>>(&self, key: &S) -> Option<&X>
+        requires { IsTrue (is_sorted K.order self.now) }
+        ensures { option_map (λ x. x.now) result ≡ find K.order (S.sought key.now) self.now }
+    {
+        match &self.node {
+            Node::Leaf => None,
+            Node::Fork(fork) => {
+                let fork: &Fork<(K, X)> = fork;
+                let entry: &(K, X) = &fork.item;
+                match key.compare_with(&entry.0) {
+                    Ordering::Less => fork.left.find(key),
+                    Ordering::Equal => Some(&entry.1),
+                    Ordering::Greater => fork.right.find(key),
+                }
+            }
+        }
+    }
+}
+
+impl<A> Tree<A> {
+    /// How many items lie one below the other at most: no more than the logarithm of their number and one, to the base 4/3.
+    pub fn height(&self) -> usize
+        ensures low { 4 ^ result ≤ 3 ^ result * (length self.now + 1) }
+        ensures items { result ≤ length self.now }
+    {
+        match &self.node {
+            Node::Leaf => 0,
+            Node::Fork(fork) => {
+                let fork: &Fork<A> = fork;
+                let (low, high) = (fork.left.height(), fork.right.height());
+                if low > high { low + 1 } else { high + 1 }
+            }
+        }
+    }
+}
+
+impl<A: Drop> Tree<A> {
+    /// A copy, which shares all items. Takes no memory.
+    pub fn share(&self) -> Result<Tree<A>, AllocError>
+        ensures { IfOk result (λ t. t ≡ self.now) }
+    {
+        match &self.node {
+            Node::Leaf => Ok(Tree::new()),
+            Node::Fork(fork) => Ok(Tree {
+                node: Node::Fork(Arc::try_clone(fork)?),
+            }),
+        }
+    }
+
+    // The topmost item with what stands before and after it; none where there are no items.
+    fn parts(self) -> Result<Option<Parts<A>>, AllocError>
+        ensures items { IfOk result (λ parts. parted parts ≡ self) }
+        ensures balanced { IfOk result IsBalanced }
+    {
+        match self.node {
+            Node::Leaf => Ok(None),
+            Node::Fork(fork) => match Arc::try_unwrap(fork) {
+                Ok(fork) => Ok(Some(Parts {
+                    left: fork.left,
+                    item: fork.item,
+                    right: fork.right,
+                })),
+                Err(fork) => Ok(Some(Parts {
+                    left: fork.left.share()?,
+                    item: Arc::try_clone(&fork.item)?,
+                    right: fork.right.share()?,
+                })),
+            },
+        }
+    }
+
+    // A tree of these parts, whatever their sizes.
+    fn fork(
+        alloc: Global,
+        left: Tree<A>,
+        item: Arc<A, Global>,
+        right: Tree<A>,
+    ) -> Result<Tree<A>, AllocError>
+        requires room { length left + length right < MOST }
+        requires sides { Balance (length left) (length right) }
+        ensures { IfOk result (λ t. t ≡ left ++ arc_value item ∷ right) }
+    {
+        let size = left.len() + right.len() + 1;
+        Ok(Tree {
+            node: Node::Fork(Arc::new(
+                alloc,
+                Fork {
+                    left,
+                    item,
+                    right,
+                    size,
+                },
+            )?),
+        })
+    }
+
+    // A tree of these parts, of which the right one is too large: what stands first in it goes to the left.
+    fn lean_left(
+        alloc: Global,
+        left: Tree<A>,
+        item: Arc<A, Global>,
+        right: Tree<A>,
+    ) -> Result<Tree<A>, AllocError>
+        requires room { length left + length right < MOST }
+        requires large { 3 * length left + 2 < length right }
+        requires near { length right ≤ 3 * length left + 5 }
+        ensures { IfOk result (λ t. t ≡ left ++ arc_value item ∷ right) }
+    {
+        let Some(outer) = right.parts()? else {
+            unreachable!()
+        };
+        if outer.left.len() <= 2 * outer.right.len() {
+            let low = Tree::fork(alloc, left, item, outer.left)?;
+            return Tree::fork(alloc, low, outer.item, outer.right);
+        }
+        let Some(inner) = outer.left.parts()? else {
+            unreachable!()
+        };
+        let low = Tree::fork(alloc, left, item, inner.left)?;
+        let high = Tree::fork(alloc, inner.right, outer.item, outer.right)?;
+        Tree::fork(alloc, low, inner.item, high)
+    }
+
+    // A tree of these parts, of which the left one is too large: what stands last in it goes to the right.
+    fn lean_right(
+        alloc: Global,
+        left: Tree<A>,
+        item: Arc<A, Global>,
+        right: Tree<A>,
+    ) -> Result<Tree<A>, AllocError>
+        requires room { length left + length right < MOST }
+        requires large { 3 * length right + 2 < length left }
+        requires near { length left ≤ 3 * length right + 5 }
+        ensures { IfOk result (λ t. t ≡ left ++ arc_value item ∷ right) }
+    {
+        let Some(outer) = left.parts()? else {
+            unreachable!()
+        };
+        if outer.right.len() <= 2 * outer.left.len() {
+            let high = Tree::fork(alloc, outer.right, item, right)?;
+            return Tree::fork(alloc, outer.left, outer.item, high);
+        }
+        let Some(inner) = outer.right.parts()? else {
+            unreachable!()
+        };
+        let low = Tree::fork(alloc, outer.left, outer.item, inner.left)?;
+        let high = Tree::fork(alloc, inner.right, item, right)?;
+        Tree::fork(alloc, low, inner.item, high)
+    }
+
+    // A tree of these parts, of which one has got or lost an item. Where it leans, some items change sides.
+    fn join(
+        alloc: Global,
+        left: Tree<A>,
+        item: Arc<A, Global>,
+        right: Tree<A>,
+    ) -> Result<Tree<A>, AllocError>
+        requires room { length left + length right < MOST }
+        requires near { NearBalance (length left) (length right) }
+        ensures { IfOk result (λ t. t ≡ left ++ arc_value item ∷ right) }
+    {
+        let (low, high) = (left.len(), right.len());
+        if high > 3 * low + 2 {
+            Tree::lean_left(alloc, left, item, right)
+        } else if low > 3 * high + 2 {
+            Tree::lean_right(alloc, left, item, right)
+        } else {
+            Tree::fork(alloc, left, item, right)
+        }
+    }
+
+    #[tactic(auto, using(crate::proofs::Sides::insert_after))]
+    /// The tree with the item put in at a place, before what stands there.
+    pub fn with_inserted(
+        &self,
+        alloc: Global,
+        place: usize,
+        item: Arc<A, Global>,
+    ) -> Result<Tree<A>, AllocError>
+        requires within { place ≤ length self.now }
+        requires room { length self.now < MOST }
+        ensures { IfOk result (λ t. t ≡ insert self.now place (arc_value item)) }
+    {
+        match &self.node {
+            Node::Leaf => Tree::fork(alloc, Tree::new(), item, Tree::new()),
+            Node::Fork(fork) => {
+                let before = fork.left.len();
+                if place <= before {
+                    let left = fork.left.with_inserted(alloc, place, item)?;
+                    Tree::join(
+                        alloc,
+                        left,
+                        Arc::try_clone(&fork.item)?,
+                        fork.right.share()?,
+                    )
+                } else {
+                    let right = fork.right.with_inserted(alloc, place - before - 1, item)?;
+                    Tree::join(
+                        alloc,
+                        fork.left.share()?,
+                        Arc::try_clone(&fork.item)?,
+                        right,
+                    )
+                }
+            }
+        }
+    }
+
+    #[tactic(auto, using(crate::proofs::Sides::set_before, crate::proofs::Sides::set_here, crate::proofs::Sides::set_after))]
+    /// The tree with another item at a place.
+    pub fn with_replaced(
+        &self,
+        alloc: Global,
+        place: usize,
+        item: Arc<A, Global>,
+    ) -> Result<Tree<A>, AllocError>
+        requires within { place < length self.now }
+        ensures { IfOk result (λ t. t ≡ slice_set self.now place (arc_value item)) }
+    {
+        match &self.node {
+            Node::Leaf => Ok(Tree::new()),
+            Node::Fork(fork) => {
+                let before = fork.left.len();
+                if place < before {
+                    let left = fork.left.with_replaced(alloc, place, item)?;
+                    Tree::fork(
+                        alloc,
+                        left,
+                        Arc::try_clone(&fork.item)?,
+                        fork.right.share()?,
+                    )
+                } else if place == before {
+                    Tree::fork(alloc, fork.left.share()?, item, fork.right.share()?)
+                } else {
+                    let right = fork.right.with_replaced(alloc, place - before - 1, item)?;
+                    Tree::fork(
+                        alloc,
+                        fork.left.share()?,
+                        Arc::try_clone(&fork.item)?,
+                        right,
+                    )
+                }
+            }
+        }
+    }
+
+    /// Puts an item in at a place, before what stands there. Where memory is wanted, the tree is as before. Copies of the tree
+    /// stay as they are.
+    pub fn insert(
+        &mut self,
+        alloc: Global,
+        place: usize,
+        item: Arc<A, Global>,
+    ) -> Result<(), AllocError>
+        requires within { place ≤ length self.old }
+        requires room { length self.old < MOST }
+        ensures { self.new ≡ (if is_ok result then insert self.old place (arc_value item) else self.old) }
+    {
+        match &mut self.node {
+            Node::Leaf => {
+                *self = Tree::fork(alloc, Tree::new(), item, Tree::new())?;
+                Ok(())
+            }
+            Node::Fork(fork) => match Arc::get_mut(fork) {
+                None => {
+                    *self = self.with_inserted(alloc, place, item)?;
+                    Ok(())
+                }
+                Some(fork) => {
+                    let (low, high) = (fork.left.len(), fork.right.len());
+                    if place <= low {
+                        if low > 3 * high + 1 {
+                            *self = self.with_inserted(alloc, place, item)?;
+                            return Ok(());
+                        }
+                        fork.left.insert(alloc, place, item)?;
+                    } else {
+                        if high > 3 * low + 1 {
+                            *self = self.with_inserted(alloc, place, item)?;
+                            return Ok(());
+                        }
+                        fork.right.insert(alloc, place - low - 1, item)?;
+                    }
+                    fork.size += 1;
+                    Ok(())
+                }
+            },
+        }
+    }
+
+    /// The first item, and the tree without it; none where there are no items.
+    pub fn without_first(
+        &self,
+        alloc: Global,
+    ) -> Result<Option<(Arc<A, Global>, Tree<A>)>, AllocError>
+        ensures { IfOk result (λ first. first_of first ≡ self.now) }
+    {
+        match &self.node {
+            Node::Leaf => Ok(None),
+            Node::Fork(fork) => match fork.left.without_first(alloc)? {
+                None => Ok(Some((Arc::try_clone(&fork.item)?, fork.right.share()?))),
+                Some((first, left)) => {
+                    let rest = Tree::join(
+                        alloc,
+                        left,
+                        Arc::try_clone(&fork.item)?,
+                        fork.right.share()?,
+                    )?;
+                    Ok(Some((first, rest)))
+                }
+            },
+        }
+    }
+
+    #[tactic(auto, using(crate::proofs::Sides::remove_before, crate::proofs::Sides::remove_here, crate::proofs::Sides::remove_after))]
+    /// The tree without the item at a place.
+    pub fn with_removed(&self, alloc: Global, place: usize) -> Result<Tree<A>, AllocError>
+        requires within { place < length self.now }
+        ensures { IfOk result (λ t. t ≡ remove self.now place) }
+    {
+        match &self.node {
+            Node::Leaf => Ok(Tree::new()),
+            Node::Fork(fork) => {
+                let before = fork.left.len();
+                if place < before {
+                    let left = fork.left.with_removed(alloc, place)?;
+                    Tree::join(
+                        alloc,
+                        left,
+                        Arc::try_clone(&fork.item)?,
+                        fork.right.share()?,
+                    )
+                } else if place == before {
+                    match fork.right.without_first(alloc)? {
+                        None => fork.left.share(),
+                        Some((first, right)) => {
+                            Tree::join(alloc, fork.left.share()?, first, right)
+                        }
+                    }
+                } else {
+                    let right = fork.right.with_removed(alloc, place - before - 1)?;
+                    Tree::join(
+                        alloc,
+                        fork.left.share()?,
+                        Arc::try_clone(&fork.item)?,
+                        right,
+                    )
+                }
+            }
+        }
+    }
+
+    /// Puts another item in place of the one at a place. Where memory is wanted, the tree is as before. Copies of the tree stay
+    /// as they are.
+    pub fn replace(
+        &mut self,
+        alloc: Global,
+        place: usize,
+        item: Arc<A, Global>,
+    ) -> Result<(), AllocError>
+        requires { place < length self.old }
+        ensures { self.new ≡ (if is_ok result then slice_set self.old place (arc_value item) else self.old) }
+    {
+        match &mut self.node {
+            Node::Leaf => Ok(()),
+            Node::Fork(fork) => match Arc::get_mut(fork) {
+                None => {
+                    *self = self.with_replaced(alloc, place, item)?;
+                    Ok(())
+                }
+                Some(fork) => {
+                    let before = fork.left.len();
+                    if place < before {
+                        fork.left.replace(alloc, place, item)
+                    } else if place == before {
+                        fork.item = item;
+                        Ok(())
+                    } else {
+                        fork.right.replace(alloc, place - before - 1, item)
+                    }
+                }
+            },
+        }
+    }
+
+    /// Removes the item at a place. Where memory is wanted, the tree is as before. Copies of the tree stay as they are.
+    pub fn remove(&mut self, alloc: Global, place: usize) -> Result<(), AllocError>
+        requires { place < length self.old }
+        ensures { self.new ≡ (if is_ok result then remove self.old place else self.old) }
+    {
+        match &mut self.node {
+            Node::Leaf => Ok(()),
+            Node::Fork(fork) => match Arc::get_mut(fork) {
+                None => {
+                    *self = self.with_removed(alloc, place)?;
+                    Ok(())
+                }
+                Some(fork) => {
+                    let (low, high) = (fork.left.len(), fork.right.len());
+                    if place == low {
+                        *self = self.with_removed(alloc, place)?;
+                        return Ok(());
+                    }
+                    if place < low {
+                        if high + 1 > 3 * low {
+                            *self = self.with_removed(alloc, place)?;
+                            return Ok(());
+                        }
+                        fork.left.remove(alloc, place)?;
+                    } else {
+                        if low + 1 > 3 * high {
+                            *self = self.with_removed(alloc, place)?;
+                            return Ok(());
+                        }
+                        fork.right.remove(alloc, place - low - 1)?;
+                    }
+                    fork.size -= 1;
+                    Ok(())
+                }
+            },
+        }
+    }
+
+    /// A tree of items, whose order it keeps. Where memory is wanted, the items are dropped.
+    pub fn from_vec(alloc: Global, items: Vec<A>) -> Result<Tree<A>, AllocError>
+        requires { length items.items ≤ MOST }
+        ensures { IfOk result (λ t. t ≡ items.items) }
+    {
+        let mut items = items;
+        let count = items.len();
+        Tree::from_last(alloc, &mut items, count)
+    }
+
+    // A tree of the last items, as many as asked for, which leave the vector.
+    fn from_last(alloc: Global, items: &mut Vec<A>, count: usize) -> Result<Tree<A>, AllocError>
+        requires within { count ≤ length items.old.items }
+        requires room { count ≤ MOST }
+        ensures items { IfOk result (λ t. items.old.items ≡ items.new.items ++ t) }
+        ensures count { OnOk result (length items.new.items + count ≡ length items.old.items) }
+    {
+        if count == 0 {
+            return Ok(Tree::new());
+        }
+        let after = count / 2;
+        let right = Tree::from_last(alloc, items, after)?;
+        match items.pop() {
+            None => Ok(right),
+            Some(item) => {
+                let item = Arc::new(alloc, item)?;
+                let left = Tree::from_last(alloc, items, count - after - 1)?;
+                Tree::fork(alloc, left, item, right)
+            }
+        }
+    }
+}
+
+/// The items of a tree from a place on, in order.
+#[derive(Drop)]
+pub struct Items<'a, A> {
+    tree: &'a Tree<A>,
+    place: usize,
+}
+
+impl<A> Tree<A> {
+    /// The items from a place on, in order.
+    pub fn from(&self, place: usize) -> Items<'_, A>
+        ensures { items_left result ≡ drop place self.now }
+    {
+        Items { tree: self, place }
+    }
+}
+
+impl<'a, A> Iterator for Items<'a, A> {
+    type Item = &'a A;
+
+    ghost next_gives = { YieldsFirstRef items_left };
+
+    ghost remaining = { item_count items_left };
+
+    #[tactic(auto, using(crate::proofs::Sides::drop_get))]
+    fn next(&mut self) -> Option<&'a A> {
+        if self.place >= self.tree.len() {
+            return None;
+        }
+        match self.tree.get(self.place) {
+            None => None,
+            Some(item) => {
+                self.place += 1;
+                Some(item)
+            }
+        }
+    }
+}

@@ -1,0 +1,9 @@
+pub mod Ends
+pub mod Finds
+pub mod Flow
+pub mod Narrowness
+pub mod Nodes
+pub mod Pairs
+pub mod Quotes
+pub mod Texts
+pub mod Proper

@@ -1,0 +1,13 @@
+pub mod Steps
+pub mod Scan
+pub mod Scalar
+pub mod Quoted
+pub mod Seen
+pub mod Value
+pub mod Lines
+pub mod SeenLine
+pub mod SeenPair
+pub mod Literal
+pub mod Block
+pub mod Reading
+pub mod Narrow
