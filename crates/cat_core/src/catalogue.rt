@@ -1,7 +1,8 @@
 //! The catalogue.
 ghost use Rattle.std.specs.Prelude.{◌≡◌, ℕ, ◌<◌, ◌≤◌, ◌^◌, IfOk, IfErr, Option, IsTrue, ◌↔◌, is_ok, option_map, slice_get};
 ghost use Rattle.std.specs.declared.option.Option.TheVariants.{None};
-ghost use Rattle.cat_table.specs.Table.{get};
+ghost use Rattle.std.specs.FinMap.Entries.{is_sorted};
+ghost use Rattle.cat_table.specs.Table.{get, text_cmp};
 ghost use Rattle.cat_model.specs.Catalogue.{holding};
 ghost use Rattle.cat_model.specs.Fresh.{IsFresh};
 ghost use Rattle.cat_model.specs.Given.{given};
@@ -246,12 +247,16 @@ impl<L: Layers> Catalogue<L> {
         answered(came)
     }
 
-    /// Drops a text from the shelf.
+    /// Drops a text from the shelf. A name that the shelf hasn't is not found, without memory.
     pub fn shelf_drop(&mut self, alloc: Global, name: &Text) -> Result<(), CoreFault>
         ensures state { self.new.state ≡ after result self.old.state (step L.rules self.old.settings (ShelfDrop name.now) self.old.state) }
         ensures settings { self.new.settings ≡ self.old.settings }
         ensures reply { IsReply result (refusal L.rules self.old.settings (ShelfDrop name.now) self.old.state) tt }
+        ensures not_found { get self.old.state.shelf name.now ≡ None → result ≡ Err CoreFault.NotFound }
     {
+        if self.ledger.state.shelf.get(name).is_none() {
+            return Err(CoreFault::NotFound);
+        }
         let came = shelf_drop(
             alloc,
             &self.layers,
@@ -263,12 +268,17 @@ impl<L: Layers> Catalogue<L> {
         answered(came)
     }
 
-    /// Forgets a record or an orphan with all that it emitted. What is still offered for the reference gets a new number.
+    /// Forgets a record or an orphan with all that it emitted. What is still offered for the reference gets a new number. A
+    /// reference that is neither is not found, without memory.
     pub fn forget(&mut self, alloc: Global, reference: &Ref) -> Result<(), CoreFault>
         ensures state { self.new.state ≡ after result self.old.state (step L.rules self.old.settings (Forget reference.now) self.old.state) }
         ensures settings { self.new.settings ≡ self.old.settings }
         ensures reply { IsReply result (refusal L.rules self.old.settings (Forget reference.now) self.old.state) tt }
+        ensures not_found { its_number self.old.state reference.now ≡ None → result ≡ Err CoreFault.NotFound }
     {
+        if number_of(&self.ledger.state, reference).is_none() {
+            return Err(CoreFault::NotFound);
+        }
         let came = forget(
             alloc,
             &self.layers,
@@ -350,12 +360,16 @@ impl<L: Layers> Catalogue<L> {
         answered(Ok(fault))
     }
 
-    /// Forgets the record or orphan with this number.
+    /// Forgets the record or orphan with this number. A number that none has is not found, without memory.
     pub fn forget_number(&mut self, alloc: Global, number: u64) -> Result<(), CoreFault>
         ensures state { self.new.state ≡ after result self.old.state (step L.rules self.old.settings (ForgetNumber number) self.old.state) }
         ensures settings { self.new.settings ≡ self.old.settings }
         ensures reply { IsReply result (refusal L.rules self.old.settings (ForgetNumber number) self.old.state) tt }
+        ensures not_found { ref_at self.old.state number ≡ None → result ≡ Err CoreFault.NotFound }
     {
+        if with_number(&self.ledger.state, number).is_none() {
+            return Err(CoreFault::NotFound);
+        }
         let came = forget_number(
             alloc,
             &self.layers,
@@ -464,14 +478,16 @@ impl<L: Layers> Catalogue<L> {
     /// The documents, in order of reference. Where the catalogue is quiet they are those computed afresh from its inputs.
     pub fn docs(&self) -> &[(Ref, Node)]
         ensures docs { result.now ≡ self.now.state.documents }
+        ensures order { IsTrue (is_sorted text_cmp result.now) }
         ensures fresh { (now : ℕ) → Quiet self.now.state now → IsFresh L.rules self.now.state }
     {
         self.ledger.state.documents.as_slice()
     }
 
-    /// The document of a reference.
+    /// The document of a reference. Where the catalogue is quiet the documents are those computed afresh from its inputs.
     pub fn get(&self, reference: &Ref) -> Option<&Node>
-        ensures { option_map (λ x. x.now) result ≡ get self.now.state.documents reference.now }
+        ensures document { option_map (λ x. x.now) result ≡ get self.now.state.documents reference.now }
+        ensures fresh { (now : ℕ) → Quiet self.now.state now → IsFresh L.rules self.now.state }
     {
         self.ledger.state.documents.get(reference)
     }

@@ -3,60 +3,28 @@ ghost use Rattle.std.specs.Prelude.{◌≡◌, ◌&&◌, cond, IfOk, ℕ, List, 
 ghost use Rattle.std.specs.declared.option.Option.TheVariants.{None, Some};
 ghost use Rattle.std.specs.List.{filter};
 ghost use Rattle.cat_table.specs.Table.{first, get, keys};
-ghost use Rattle.cat_model.specs.Catalogue.{known_refs};
-ghost use Rattle.cat_model.specs.Step.{due_at, earlier, earliest, has_number, is_free, may_take, next_taken, ref_at};
+ghost use Rattle.cat_model.specs.Step.{due_at, earlier, earliest, is_free, may_take, next_taken, ref_at};
 ghost use Rattle.cat_model.specs.Step.Event.{ForgetNumber};
 ghost use Rattle.cat_events.specs.Coming.{HasCome, IsSteady};
 ghost use Rattle.cat_events.specs.Stepped.{come_to};
 
+use crate::known::with_number;
 use cat_events::change::forget;
-use cat_frame::marks::all_refs;
-use cat_hold::build::{Passes, first_of};
 use cat_hold::layers::Layers;
 use cat_links::links::Links;
-use cat_model::types::{Fault, Lease, Orphan, Record, Settings, State};
+use cat_model::types::{Fault, Lease, Record, Settings, State};
 use cat_ref::reference::Ref;
 use cat_table::listing::Copied;
 use std::alloc::{AllocError, Global};
 
-/// Whether a record, or else an orphan, has this number.
-pub fn numbered(number: u64, kept: Option<&Record>, orphan: Option<&Orphan>) -> bool
-    ensures { result ≡ has_number number (option_map (λ x. x.now) kept.entry) (option_map (λ x. x.now) orphan.entry) }
-{
-    match kept {
-        Some(kept) => number == kept.number,
-        None => match orphan {
-            Some(orphan) => number == orphan.number,
-            None => false,
-        },
-    }
-}
-
-#[derive(Drop)]
-struct HasNumber<'a> {
-    m: &'a State,
-    number: u64,
-}
-
-impl Passes<Ref> for HasNumber<'_> {
-    ghost passes = { λ s r. has_number s.number (get s.m.now.records r) (get s.m.now.orphans r) };
-
-    fn test(&self, _alloc: Global, key: &Ref) -> Result<bool, AllocError> {
-        Ok(numbered(
-            self.number,
-            self.m.records.get(key),
-            self.m.orphans.get(key),
-        ))
-    }
-}
-
-/// The reference of a record or an orphan with this number.
-pub fn ref_with(alloc: Global, m: &State, number: u64) -> Result<Option<Ref>, AllocError>
+// A copy of the reference of a record or an orphan with this number.
+fn known_copy(alloc: Global, m: &State, number: u64) -> Result<Option<Ref>, AllocError>
     ensures { IfOk result (λ r. r ≡ ref_at m.now number) }
 {
-    let all = all_refs(alloc, m)?;
-    let test = HasNumber { m, number };
-    first_of(alloc, all.as_slice(), &test)
+    match with_number(m, number) {
+        None => Ok(None),
+        Some(reference) => Ok(Some(reference.duplicate(alloc)?)),
+    }
 }
 
 /// Forgets the record or orphan with this number, with all that follows.
@@ -71,7 +39,7 @@ pub fn forget_number<L: Layers>(
     requires { IsSteady L.rules links.old state.old }
     ensures { HasCome L.rules (come_to L.rules settings.now (ForgetNumber number) state.old) result state.old state.new links.new }
 {
-    match ref_with(alloc, state, number) {
+    match known_copy(alloc, state, number) {
         Ok(None) => Ok(Some(Fault::NotFound)),
         Ok(Some(reference)) => forget(alloc, layers, settings, &reference, state, links),
         Err(refused) => Err(refused),

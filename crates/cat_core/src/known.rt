@@ -7,8 +7,7 @@ ghost use Rattle.cat_model.specs.Step.{has_number, ref_at};
 ghost use Rattle.cat_core.specs.Least.{least, nearer};
 ghost use Rattle.std.specs.declared.option.Option.TheVariants.{None};
 
-use crate::extra::numbered;
-use cat_model::types::State;
+use cat_model::types::{Orphan, Record, State};
 use cat_ref::reference::Ref;
 use cat_table::key::Key;
 use std::cmp::Ordering;
@@ -31,6 +30,19 @@ fn is_later(after: Option<&Ref>, reference: &Ref) -> bool
     match after {
         None => true,
         Some(after) => reference.compare(after) == Ordering::Greater,
+    }
+}
+
+// Whether a record, or else an orphan, has this number.
+fn numbered(number: u64, kept: Option<&Record>, orphan: Option<&Orphan>) -> bool
+    ensures { result ≡ has_number number (option_map (λ x. x.now) kept.entry) (option_map (λ x. x.now) orphan.entry) }
+{
+    match kept {
+        Some(kept) => number == kept.number,
+        None => match orphan {
+            Some(orphan) => number == orphan.number,
+            None => false,
+        },
     }
 }
 

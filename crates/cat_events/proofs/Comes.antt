@@ -1,5 +1,5 @@
 -- What a call makes of a state and its links, where a step is what the event comes to.
-use Rattle.std.proofs.Common.{◌≡◌, Bool, true, false, cond, is_some, [], ◌∷◌, refl, sym, ap, subst, ◌∙◌, IfOk}
+use Rattle.std.proofs.Common.{◌≡◌, cond, is_some, [], ◌∷◌, refl, sym, ap, subst, ◌∙◌}
 use Rattle.std.specs.declared.option.Option.{Option}
 use Rattle.std.specs.declared.option.Option.TheVariants.{None, Some}
 use Rattle.std.specs.declared.result.Result.TheVariants.{Ok, Err}

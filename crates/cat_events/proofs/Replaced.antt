@@ -1,16 +1,13 @@
 -- What replacing, putting and removing make of tables in order.
-use Rattle.std.proofs.Common.{T, ◌≡◌, Bool, true, false, cond, List, [], ◌∷◌, refl, sym, ap, subst, ◌∙◌, is_some, true≢false, Ordering}
+use Rattle.std.proofs.Common.{T, ◌≡◌, Bool, true, false, cond, List, refl, sym, ap, ◌∙◌, is_some, true≢false, Ordering}
 use Rattle.std.specs.Prelude.{if◌then◌else◌}
-use Rattle.std.specs.declared.option.Option.{Option}
-use Rattle.std.specs.declared.option.Option.TheVariants.{None, Some}
-use Rattle.std.specs.Option.{option_and_then}
+use Rattle.std.specs.declared.option.Option.TheVariants.{Some}
 use Rattle.std.specs.Ordering.{eq_by_cmp}
 use Rattle.std.specs.Cmp.{IsTotalOrder}
 use Rattle.std.specs.FinMap.{IsAntisymmetric}
-use Rattle.std.specs.FinMap.Entries.{find-put, find-where_key, is_sorted, is_sorted-put, is_sorted-where_key, same_entries}
-use Rattle.cat_table.specs.Rows.{without}
-use Rattle.cat_table.specs.Table.{find, keys, over, put, tabulate}
-use Rattle.cat_table.proofs.Tables.{find-over, is_sorted-tabulate, same_is, same_self}
+use Rattle.std.specs.FinMap.Entries.{find-put, is_sorted, is_sorted-put, same_entries}
+use Rattle.cat_table.specs.Table.{find, put}
+use Rattle.cat_table.proofs.Tables.{same_self}
 
 pub to_T : (b : Bool) → b ≡ true → T b
 to_T true h = tt

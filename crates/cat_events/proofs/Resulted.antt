@@ -6,10 +6,9 @@ use Rattle.std.specs.declared.result.Result.{Result}
 use Rattle.std.specs.declared.result.Result.TheVariants.{Ok, Err}
 use Rattle.std.specs.Bool.{beq}
 use Rattle.std.specs.Option.{option_and_then}
-use Rattle.std.specs.Ordering.{eq_by_cmp}
 use Rattle.std.specs.Cmp.{both_ways, nat_cmp_total}
 use Rattle.std.specs.FinMap.{nat_cmp-IsAntisymmetric}
-use Rattle.std.specs.FinMap.Entries.{find-put, is_sorted, is_sorted-put, same_entries}
+use Rattle.std.specs.FinMap.Entries.{is_sorted, same_entries}
 use Rattle.std.specs.List.{filter, list_any}
 use Rattle.std.specs.List.Sorted.{IsStrictlySortedBy}
 use Rattle.std.proofs.lemmas.List.Folds.{list_any-append}
@@ -19,6 +18,7 @@ use Rattle.cat_table.specs.Table.{Map, get, keys, over, put, puts, same_text, te
 use Rattle.cat_types.specs.declared.input.Offered.{Offered}
 use Rattle.cat_types.specs.declared.work.Outcome.{Outcome}
 use Rattle.cat_types.specs.declared.work.Outcome.TheVariants.{Good, Bad}
+use Rattle.cat_types.specs.declared.work.Output.{Output}
 use Rattle.cat_table.specs.Order.{in_order}
 use Rattle.cat_table.proofs.Orders.{has-in_order, in_order-rises}
 use Rattle.cat_table.proofs.Tables.{text_total, text_antisymmetric, and_first, and_second, find-over, find-put_other, find-put_same, is_sorted-tabulate, same_is, same_self}
@@ -39,25 +39,28 @@ use Rattle.cat_model.specs.declared.types.Row.{Row}
 use Rattle.cat_model.specs.declared.types.Settings.{Settings}
 use Rattle.cat_model.specs.declared.types.State.{State}
 use Rattle.cat_model.specs.Catalogue.{Ref, Rows, Rules, changed_refs, emits, frame, output_of, row_at, same_option, tickets}
-use Rattle.cat_model.specs.Sound.{AreOrdered, AreSmall, Sound}
-use Rattle.cat_model.specs.Step.{Event, add_offer, add_offers, change, fault_where, finish, finished_record, finished_rows, finished_state, has_row, offered_again, or_else, refusal, row_after, same_origin, spent, step, with_record}
+use Rattle.cat_model.specs.Sound.{AreOffers, AreOrdered, AreSmall, Sound, offered}
+use Rattle.cat_model.specs.Step.{Event, add_offer, add_offers, fault_where, finish, finished_record, finished_rows, finished_state, has_row, is_offer, offered_again, or_else, row_after, same_origin, spent, with_record}
 use Rattle.cat_model.specs.Step.Event.{Finish}
 use Rattle.cat_laws.proofs.Alone.{alone_framed}
-use Rattle.cat_laws.proofs.Ordered.{step_ordered}
-use Rattle.cat_laws.proofs.Steps.{other_way, run_kept, step_small}
+use Rattle.cat_laws.proofs.Replaced.{same_origin-is}
+use Rattle.cat_laws.proofs.Steps.{other_way}
 use Rattle.cat_frame.specs.Linked.{AreLinked, AreRecorded, LeavesOthers, TouchesOnly, moved, same_sort}
 use Rattle.cat_frame.proofs.Linking.{changed_alone}
 use Rattle.cat_frame.proofs.Partly.{parts_are}
-use Rattle.cat_events.specs.Alone.{alone_state, have_rows, is_present_order, leaves_rows, links_after, row_stays, rows_stay, same_offer}
-use Rattle.cat_events.specs.Coming.{HasCome, IsLinkedStep, IsSteady, came_fault, came_state, links_in, seen, state_after}
+use Rattle.cat_events.specs.Alone.{alone_state, is_present_order, kept_offers, links_after, offers_again, output_offers, same_offer, same_offers}
+use Rattle.cat_events.specs.Coming.{HasCome, IsSteady, came_fault, came_state, state_after}
 use Rattle.cat_events.specs.Stepped.{come_to, stepped}
 use Rattle.cat_events.proofs.Comes.{steady_step}
+use Rattle.cat_events.proofs.Indexed.{row_shows}
 use Rattle.cat_events.specs.declared.stepped.Stepped.{Stepped}
 use Rattle.cat_events.specs.declared.stepped.Stepped.TheVariants.{Refused, Acts}
-use Rattle.cat_events.specs.declared.stepped.Step.{Step}
-use Rattle.cat_events.specs.declared.stepped.Step.TheVariants.{Refused as StepRefused, Acts as StepActs}
 
--- ---- rows that a result leaves as they are
+both_true : (a b : Bool) → a ≡ true → b ≡ true → (a && b) ≡ true
+both_true true b p q = q
+both_true false b p q = p
+
+-- ---- results that offer what was offered
 
 -- what is offered again as it is, is the offer
 same_offer-is : (v : Option Offered) (y : Offered) → same_offer v y ≡ true → v ≡ Some y
@@ -67,61 +70,86 @@ same_offer-is (Some x) y h =
     let tree : x.tree ≡ y.tree = is_same-true x.tree y.tree (and_second (same_text x.key y.key) _ h) in
     λ i. Some (record { key = key i; tree = tree i })
 
--- a row that stays is as it was
-stays_so : (o : Origin) (offers : Ref → Option Offered) (row : Row) → row_stays o offers row ≡ true → row_after o offers row ≡ Some row
-stays_so o offers row h = go (same_origin o row.origin) h
-  where
-    again : offers row.reference ≡ Some row.offered → offered_again row (offers row.reference) ≡ Some row
-    again e = ap (offered_again row) e ∙ ap (λ b. cond b (Some row) None) (same_self text_total text_antisymmetric row.offered.key)
+-- offers that are equal one by one are the same offers
+same_offers-is : (ds es : Map Offered) → same_offers ds es ≡ true → ds ≡ es
+same_offers-is [] [] h = refl
+same_offers-is [] (e ∷ es) h = absurd (true≢false (sym h))
+same_offers-is (d ∷ ds) [] h = absurd (true≢false (sym h))
+same_offers-is (d ∷ ds) (e ∷ es) h =
+    let here = and_first (same_text d.0 e.0 && same_offer (Some d.1) e.1) (same_offers ds es) h in
+    let key : d.0 ≡ e.0 = same_is text_total text_antisymmetric d.0 e.0 (and_first (same_text d.0 e.0) _ here) in
+    let value : d.1 ≡ e.1 = ap (λ v. unwrap_or v d.1) (same_offer-is (Some d.1) e.1 (and_second (same_text d.0 e.0) _ here)) in
+    let rest = same_offers-is ds es (and_second (same_text d.0 e.0 && same_offer (Some d.1) e.1) (same_offers ds es) h) in
+    λ i. (key i, value i) ∷ rest i
 
-    go : (b : Bool) → cond b (same_offer (offers row.reference) row.offered) true ≡ true → cond b (offered_again row (offers row.reference)) (Some row) ≡ Some row
-    go true h = again (same_offer-is (offers row.reference) row.offered h)
-    go false h = refl
-
--- each row stays where all do
-stays_at : (o : Origin) (offers : Ref → Option Offered) (rows : Rows) → rows_stay o offers rows ≡ true → (a : ℕ) (v : Option Row) → row_at rows a ≡ v → option_and_then (row_after o offers) v ≡ v
-stays_at o offers rows h a None e = refl
-stays_at o offers rows h a (Some row) e = stays_so o offers row (at rows h e)
+-- what an entity offers is what its record's kept output offers
+offered_is : (m : State) (r q : Ref) → offered m (Entity r) q ≡ get (kept_offers (get m.records r)) q
+offered_is m r q = go (get m.records r)
   where
-    at : (es : Rows) → rows_stay o offers es ≡ true → row_at es a ≡ Some row → row_stays o offers row ≡ true
-    at [] h e = absurd (true≢false (sym (ap is_some e)))
-    at (x ∷ xs) h e = go (eq_by_cmp nat_cmp a x.0) e (at xs (and_second (row_stays o offers x.1) _ h))
-      where
-        go : (b : Bool) → cond b (Some x.1) (row_at xs a) ≡ Some row → (row_at xs a ≡ Some row → row_stays o offers row ≡ true) → row_stays o offers row ≡ true
-        go true e ih = ap (row_stays o offers) (sym (ap (λ v. unwrap_or v row) e)) ∙ and_first (row_stays o offers x.1) _ h
-        go false e ih = ih e
+    out : (o : Option Output) → option_and_then (λ (x : Output). get x.offers q) o ≡ get (output_offers o) q
+    out None = refl
+    out (Some o) = refl
+
+    go : (v : Option Record) → option_and_then (λ (x : Output). get x.offers q) (option_and_then (λ (x : Record). x.output) v) ≡ get (kept_offers v) q
+    go None = refl
+    go (Some x) = out x.output
 
 -- the rows with what is offered now are the rows as they were, where all stay
-over_stands : (o : Origin) (offers : Ref → Option Offered) (rows : Rows) → T (is_sorted nat_cmp rows) → rows_stay o offers rows ≡ true → over nat_cmp rows (λ a row. row_after o offers row) ≡ rows
+over_stands : (o : Origin) (offers : Ref → Option Offered) (rows : Rows) → T (is_sorted nat_cmp rows) → ((a : ℕ) (row : Row) → row_at rows a ≡ Some row → row_after o offers row ≡ Some row)
+    → over nat_cmp rows (λ a row. row_after o offers row) ≡ rows
 over_stands o offers rows in_order h =
     same_entries nat_cmp nat_cmp_total nat_cmp-IsAntisymmetric (over nat_cmp rows (λ a row. row_after o offers row)) rows
     (is_sorted-tabulate nat_cmp_total nat_cmp-IsAntisymmetric (keys rows) (λ a. option_and_then (row_after o offers) (row_at rows a))) in_order
-    (λ a. find-over nat_cmp_total nat_cmp-IsAntisymmetric a rows (λ a row. row_after o offers row) ∙ stays_at o offers rows h a (row_at rows a) refl)
+    (λ a. find-over nat_cmp_total nat_cmp-IsAntisymmetric a rows (λ a row. row_after o offers row) ∙ at a (row_at rows a) refl)
+  where
+    at : (a : ℕ) (v : Option Row) → row_at rows a ≡ v → option_and_then (row_after o offers) v ≡ v
+    at a None e = refl
+    at a (Some row) e = h a row e
 
 -- an offer that has a row gets none
-add_stands : (o : Origin) (offers : Ref → Option Offered) (order : List Ref) (x : Numbered) → have_rows x.rows o order ≡ true → add_offers o offers order x ≡ x
+add_stands : (o : Origin) (offers : Ref → Option Offered) (order : List Ref) (x : Numbered) → ((r : Ref) (y : Offered) → offers r ≡ Some y → has_row x.rows o r ≡ true) → add_offers o offers order x ≡ x
 add_stands o offers [] x h = refl
-add_stands o offers (r ∷ rs) x h = ap (add_offers o offers rs) (one (offers r)) ∙ add_stands o offers rs x (and_second (has_row x.rows o r) _ h)
+add_stands o offers (r ∷ rs) x h = ap (add_offers o offers rs) (one (offers r) refl) ∙ add_stands o offers rs x h
   where
-    one : (v : Option Offered) → add_offer o r v x ≡ x
-    one None = refl
-    one (Some y) = ap (λ b. cond b x (record { rows = put nat_cmp x.next (record { origin = o; reference = r; offered = y }) x.rows; next = x.next + 1 })) (and_first (has_row x.rows o r) _ h)
+    one : (v : Option Offered) → offers r ≡ v → add_offer o r v x ≡ x
+    one None e = refl
+    one (Some y) e = ap (λ b. cond b x (record { rows = put nat_cmp x.next (record { origin = o; reference = r; offered = y }) x.rows; next = x.next + 1 })) (h r y e)
 
--- a result that leaves all rows as they are leaves the rows and their next arrival
-pub rows_stand : (r : Ref) (outcome : Outcome) (m : State) → T (is_sorted nat_cmp m.rows) → leaves_rows r outcome m.rows ≡ true → finished_rows r outcome m ≡ record { rows = m.rows; next = m.arrival }
-rows_stand r (Bad issues) m in_order h = refl
-rows_stand r (Good output issues) m in_order h =
-    let stay = and_first (rows_stay (Entity r) (get output.offers) m.rows) (have_rows m.rows (Entity r) (keys output.offers)) h in
-    let have = and_second (rows_stay (Entity r) (get output.offers) m.rows) (have_rows m.rows (Entity r) (keys output.offers)) h in
-    ap (λ rows. add_offers (Entity r) (get output.offers) (keys output.offers) (record { rows = rows; next = m.arrival })) (over_stands (Entity r) (get output.offers) m.rows in_order stay)
-    ∙ add_stands (Entity r) (get output.offers) (keys output.offers) (record { rows = m.rows; next = m.arrival }) have
+-- where a reference offers just what its record does, its rows stay as they are, and each offer has its row
+module _ (m : State) (r : Ref) (offers : Map Offered) (are : AreOffers m) (same : kept_offers (get m.records r) ≡ offers) where
+  offers_are : (q : Ref) → offered m (Entity r) q ≡ get offers q
+  offers_are q = offered_is m r q ∙ ap (λ es. get es q) same
+
+  each_stays : (a : ℕ) (row : Row) → row_at m.rows a ≡ Some row → row_after (Entity r) (get offers) row ≡ Some row
+  each_stays a row e = go (same_origin (Entity r) row.origin) refl
+    where
+      again : get offers row.reference ≡ Some row.offered → offered_again row (get offers row.reference) ≡ Some row
+      again f = ap (offered_again row) f ∙ ap (λ b. cond b (Some row) None) (same_self text_total text_antisymmetric row.offered.key)
+
+      go : (b : Bool) → same_origin (Entity r) row.origin ≡ b → cond b (offered_again row (get offers row.reference)) (Some row) ≡ Some row
+      go true is = again (sym (offers_are row.reference) ∙ (ap (λ o. offered m o row.reference) (same_origin-is (Entity r) row.origin is) ∙ are.given a row e))
+      go false is = refl
+
+  each_has : (q : Ref) (y : Offered) → get offers q ≡ Some y → has_row m.rows (Entity r) q ≡ true
+  each_has q y e =
+      let found = are.shown (Entity r) q y (offers_are q ∙ e) in
+      row_shows m.rows (Entity r) q found.arrival (ap (is_offer (Entity r) q) found.row ∙ both_true _ _ (same_self text_total text_antisymmetric r) (same_self text_total text_antisymmetric q))
+
+-- a result that offers what was offered leaves the rows and their next arrival, whatever its record becomes
+pub rows_stand : (r : Ref) (outcome : Outcome) (m : State) (records : Map Record) → AreOffers m → T (is_sorted nat_cmp m.rows) → offers_again (get m.records r) outcome ≡ true
+    → finished_rows r outcome (record m { records = records }) ≡ record { rows = m.rows; next = m.arrival }
+rows_stand r (Bad issues) m records are in_order h = refl
+rows_stand r (Good output issues) m records are in_order h =
+    let same = same_offers-is (kept_offers (get m.records r)) output.offers h in
+    ap (λ rows. add_offers (Entity r) (get output.offers) (keys output.offers) (record { rows = rows; next = m.arrival })) (over_stands (Entity r) (get output.offers) m.rows in_order (each_stays m r output.offers are same))
+    ∙ add_stands (Entity r) (get output.offers) (keys output.offers) (record { rows = m.rows; next = m.arrival }) (each_has m r output.offers are same)
 
 -- then the record alone is another one
-pub finished_alone : (s : Settings) (r : Ref) (now : ℕ) (x : Record) (outcome : Outcome) (m : State) → T (is_sorted nat_cmp m.rows) → leaves_rows r outcome m.rows ≡ true
+pub finished_alone : (s : Settings) (r : Ref) (now : ℕ) (x : Record) (outcome : Outcome) (m : State) → AreOffers m → T (is_sorted nat_cmp m.rows) → offers_again (get m.records r) outcome ≡ true
     → finished_state s r now x outcome m ≡ with_record r (finished_record s now x outcome) m
-finished_alone s r now x outcome m in_order h =
+finished_alone s r now x outcome m are in_order h =
     let n = with_record r (finished_record s now x outcome) m in
-    ap (λ (z : Numbered). record n { rows = z.rows; arrival = z.next }) (rows_stand r outcome n in_order h)
+    ap (λ (z : Numbered). record n { rows = z.rows; arrival = z.next }) (rows_stand r outcome m n.records are in_order h)
 
 -- a result leaves an output where there was one
 pub output_stays : (s : Settings) (now : ℕ) (x : Record) (outcome : Outcome) → is_some x.output ≡ true → is_some (finished_record s now x outcome).output ≡ true
@@ -168,10 +196,6 @@ beq_self true true e = refl
 beq_self true false e = absurd (true≢false e)
 beq_self false true e = absurd (true≢false (sym e))
 beq_self false false e = refl
-
-both_true : (a b : Bool) → a ≡ true → b ≡ true → (a && b) ≡ true
-both_true true b p q = q
-both_true false b p q = p
 
 module _ (m : State) (r : Ref) (y : Record) where
   -- another reference keeps its record
@@ -284,18 +308,18 @@ module _ (rules : Rules) (s : Settings) (order : Order) (now : ℕ) (m : State) 
       go (Some x) h = ap (λ b. cond b (result_state x) m) h
 
   -- where a result leaves all rows, what follows from it is the record and the marks of what changed with it
-  result_alone : (x : Record) → Sound rules m → AreOrdered m → get m.records order.reference ≡ Some x → leaves_rows order.reference (rules.result order.work) m.rows ≡ true
+  result_alone : (x : Record) → Sound rules m → AreOrdered m → get m.records order.reference ≡ Some x → offers_again (get m.records order.reference) (rules.result order.work) ≡ true
       → (let y = finished_record s now x (rules.result order.work) in result_state x ≡ alone_state order.reference y (tickets m.ticket (changed_refs rules m (with_record order.reference y m))) m)
   result_alone x sound ordered at leaves =
       let y = finished_record s now x (rules.result order.work) in
       let refs = changed_refs rules m (with_record order.reference y m) in
-      ap (frame rules Orphaned m) (finished_alone s order.reference now x (rules.result order.work) m sound.rows_in_order leaves)
+      ap (frame rules Orphaned m) (finished_alone s order.reference now x (rules.result order.work) m sound.offers sound.rows_in_order leaves)
       ∙ (alone_framed rules Orphaned m order.reference x y sound ordered at (output_stays s now x (rules.result order.work))
       ∙ ap (λ k. record (with_record order.reference y m) { marks = puts text_cmp (tickets m.ticket refs) m.marks; ticket = m.ticket + k }) (sym (length-tickets m.ticket refs)))
 
   -- so a finish of the present order that leaves all rows comes to that
   pub finish_alone_comes : (x : Record) → Sound rules m → AreOrdered m → get m.records order.reference ≡ Some x → is_present_order rules m order (Some x) ≡ true
-      → leaves_rows order.reference (rules.result order.work) m.rows ≡ true
+      → offers_again (get m.records order.reference) (rules.result order.work) ≡ true
       → (y : Record) → y ≡ finished_record s now x (rules.result order.work) → (marks : Map ℕ) → marks ≡ tickets m.ticket (changed_refs rules m (with_record order.reference y m))
       → come_to rules s (Finish order now) m ≡ stepped (spent (alone_state order.reference y marks m)) (alone_state order.reference y marks m)
   finish_alone_comes x sound ordered at present leaves y ey marks em =

@@ -1,8 +1,8 @@
 -- What the put of a stitch comes to.
-use Rattle.std.proofs.Common.{T, ◌≡◌, ℕ, ◌≤◌, ◌^◌, Bool, true, false, cond, not, List, refl, sym, ap, subst, ◌∙◌, IfOk, nat_lt, arith, rules}
+use Rattle.std.proofs.Common.{T, ◌≡◌, ℕ, ◌≤◌, ◌^◌, Bool, true, false, cond, not, refl, sym, ap, subst, ◌∙◌, nat_lt, arith}
 use Rattle.std.specs.declared.option.Option.{Option}
 use Rattle.std.specs.declared.option.Option.TheVariants.{None, Some}
-use Rattle.std.specs.declared.result.Result.TheVariants.{Ok, Err}
+use Rattle.std.specs.declared.result.Result.TheVariants.{Ok}
 use Rattle.std.specs.Option.{option_and_then}
 use Rattle.std.specs.FinMap.Entries.{find-where_key, is_sorted, is_sorted-where_key, same_entries}
 use Rattle.std.proofs.lemmas.Bool.{ltb-true}
@@ -12,7 +12,6 @@ use Rattle.cat_table.specs.Table.{Map, Text, get, keys, put, same_text, text_cmp
 use Rattle.cat_table.proofs.Tables.{find-over, is_sorted-tabulate, text_antisymmetric, text_total}
 use Rattle.cat_links.specs.Links.{Emitted}
 use Rattle.cat_model.specs.declared.types.Counter.TheVariants.{Arrival, Number, Token, Ticket}
-use Rattle.cat_model.specs.declared.types.Fault.{Fault}
 use Rattle.cat_model.specs.declared.types.Fault.TheVariants.{Spent}
 use Rattle.cat_frame.specs.Linked.{AreLinked}
 use Rattle.cat_model.specs.declared.types.Settings.{Settings}
@@ -20,7 +19,7 @@ use Rattle.cat_model.specs.declared.types.State.{State}
 use Rattle.cat_model.specs.declared.types.StitchOrder.{StitchOrder}
 use Rattle.cat_model.specs.Catalogue.{Rules}
 use Rattle.cat_model.specs.Sound.{AreSmall}
-use Rattle.cat_model.specs.Step.{change, fault_where, is_present_stitch, or_else, spent, without_key}
+use Rattle.cat_model.specs.Step.{fault_where, is_present_stitch, or_else, spent, without_key}
 use Rattle.cat_model.specs.Step.Event.{PutStitch}
 use Rattle.cat_events.specs.Coming.{HasCome, IsSteady, came_fault, came_state}
 use Rattle.cat_events.specs.Stepped.{come_to, stepped}

@@ -1,9 +1,9 @@
 -- What an event's own change leaves of the other references.
-use Rattle.std.proofs.Common.{◌≡◌, Bool, true, false, cond, refl, sym, ap, ◌∙◌}
+use Rattle.std.proofs.Common.{◌≡◌, false, cond, refl, ap, ◌∙◌}
 use Rattle.std.specs.declared.option.Option.{Option}
 use Rattle.std.specs.declared.option.Option.TheVariants.{None, Some}
 use Rattle.std.specs.Option.{option_and_then}
-use Rattle.cat_table.specs.Table.{Map, Text, get, same_text, text_cmp}
+use Rattle.cat_table.specs.Table.{Map, Text, get, same_text}
 use Rattle.cat_table.proofs.Tables.{find-over, text_antisymmetric, text_total}
 use Rattle.cat_model.specs.declared.types.State.{State}
 use Rattle.cat_model.specs.Step.{forgotten, without_key}

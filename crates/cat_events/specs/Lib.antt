@@ -1,3 +1,4 @@
 pub mod Stepped
 pub mod Coming
 pub mod Alone
+pub mod Indexed

@@ -1,4 +1,5 @@
-//! Results that leave all rows as they are, as most do. Then the frame is the record, its links, and the marks that follow.
+//! Results that offer what was offered before, as most do: they leave all rows as they are. Then the frame is the record, its
+//! links, and the marks that follow.
 ghost use Rattle.std.specs.Prelude.{◌≡◌, ◌≤◌, ◌^◌, ◌||◌, ◌&&◌, true, IfOk, IsTrue, Option, Bool, ℕ, List, is_some, option_map};
 ghost use Rattle.std.specs.List.{list_any};
 ghost use Rattle.std.specs.FinMap.Entries.{is_sorted};
@@ -9,12 +10,11 @@ ghost use Rattle.cat_frame.specs.Linked.{AreLinked, moved};
 ghost use Rattle.cat_model.specs.Catalogue.{changed_refs, emits, tickets};
 ghost use Rattle.cat_model.specs.Sound.{AreSmall};
 ghost use Rattle.cat_model.specs.Step.{spent, with_record};
-ghost use Rattle.cat_events.specs.Alone.{alone_state, have_rows, links_after, leaves_rows, offers_stand, row_stays, rows_stay, same_offer};
+ghost use Rattle.cat_events.specs.Alone.{alone_state, kept_offers, links_after, offers_again, same_offer, same_offers};
 ghost use Rattle.cat_events.specs.Coming.{IsSteady, came_fault, state_after};
 ghost use Rattle.cat_events.specs.Stepped.{stepped};
 
 use crate::refusal::MOST;
-use crate::rows::{is_same_origin, row_stands};
 use crate::without::is_same;
 use cat_frame::parts::parts_of;
 use cat_hold::build::{Passes, filtered, tabulated};
@@ -39,55 +39,44 @@ fn is_same_offer(offered: Option<&Offered>, other: &Offered) -> bool
     }
 }
 
-fn stays(origin: &Origin, offers: &Table<Ref, Offered>, row: &Row) -> bool
-    ensures { result ≡ row_stays origin.now (get offers.now) row.now }
+// Whether the offers are equal one by one.
+fn same_offers(left: &[(Ref, Offered)], right: &[(Ref, Offered)]) -> bool
+    ensures { result ≡ same_offers left.now right.now }
 {
-    if is_same_origin(origin, &row.origin) {
-        is_same_offer(offers.get(&row.reference), &row.offered)
-    } else {
-        true
-    }
-}
-
-fn all_stay(origin: &Origin, offers: &Table<Ref, Offered>, rows: &[(u64, Row)]) -> bool
-    ensures { result ≡ rows_stay origin.now (get offers.now) rows.now }
-{
-    for (_, row) in rows {
-        if !stays(origin, offers, row) {
-            return false;
+    let mut others = right.iter();
+    for (reference, offered) in left {
+        match others.next() {
+            Some((other, again)) => {
+                if !(is_same(reference, other) && is_same_offer(Some(offered), again)) {
+                    return false;
+                }
+            }
+            None => return false,
         }
     }
-    true
+    others.next().is_none()
 }
 
-fn all_have_rows(rows: &Table<u64, Row>, origin: &Origin, offers: &[(Ref, Offered)]) -> bool
-    ensures { result ≡ have_rows rows.now origin.now (keys offers.now) }
+// What a record offers by its kept output.
+fn kept_offers(kept: Option<&Record>) -> &[(Ref, Offered)]
+    ensures { result.now ≡ kept_offers (option_map (λ x. x.now) kept.entry) }
 {
-    for (reference, _) in offers {
-        if !row_stands(rows, origin, reference) {
-            return false;
-        }
+    match kept {
+        None => &[],
+        Some(kept) => match &kept.output {
+            None => &[],
+            Some(output) => output.offers.as_slice(),
+        },
     }
-    true
 }
 
-/// Whether a result of a reference leaves all rows as they are.
-pub fn leaves_rows(
-    alloc: Global,
-    reference: &Ref,
-    outcome: &Outcome,
-    rows: &Table<u64, Row>,
-) -> Result<bool, AllocError>
-    ensures { IfOk result (λ b. b ≡ leaves_rows reference.now outcome.now rows.now) }
+/// Whether a result offers just what its record's kept output does, and so leaves all rows as they are.
+pub fn offers_again(kept: Option<&Record>, outcome: &Outcome) -> bool
+    ensures { result ≡ offers_again (option_map (λ x. x.now) kept.entry) outcome.now }
 {
     match outcome {
-        Outcome::Bad(_) => Ok(true),
-        Outcome::Good(output, _) => {
-            let origin = Origin::Entity(reference.duplicate(alloc)?);
-            let stand = all_stay(&origin, &output.offers, rows.as_slice())
-                && all_have_rows(rows, &origin, output.offers.as_slice());
-            Ok(stand)
-        }
+        Outcome::Bad(_) => true,
+        Outcome::Good(output, _) => same_offers(kept_offers(kept), output.offers.as_slice()),
     }
 }
 

@@ -8,11 +8,11 @@ ghost use Rattle.cat_model.specs.Catalogue.{changed_refs, frame, tickets};
 ghost use Rattle.cat_model.specs.Sound.{AreSmall};
 ghost use Rattle.cat_model.specs.Step.{finished_record, finished_rows, finished_state, with_record};
 ghost use Rattle.cat_model.specs.Step.Event.{Finish};
-ghost use Rattle.cat_events.specs.Alone.{is_present_order, leaves_rows};
+ghost use Rattle.cat_events.specs.Alone.{is_present_order, offers_again};
 ghost use Rattle.cat_events.specs.Coming.{HasCome, IsLinkedStep, IsSteady, seen};
 ghost use Rattle.cat_events.specs.Stepped.{come_to, AreMoments};
 
-use crate::alone::{Alone, applied, leaves_rows, planned};
+use crate::alone::{Alone, applied, offers_again, planned};
 use crate::done::Done;
 use crate::present::present_order;
 use crate::refusal::unless_spent;
@@ -201,7 +201,7 @@ fn kept_finished<L: Layers>(
     Ok(alone)
 }
 
-// Takes in the result of the present order, where it leaves all rows as they are.
+// Takes in the result of the present order, where it offers what was offered, and so leaves all rows as they are.
 fn finish_alone<L: Layers>(
     alloc: Global,
     layers: &L,
@@ -214,7 +214,7 @@ fn finish_alone<L: Layers>(
     requires steady { IsSteady L.rules links.old state.old }
     requires moments { AreMoments settings.now now }
     requires present { is_present_order L.rules state.old done.now.order.now (get state.old.records done.now.order.now.reference) ≡ true }
-    requires rows { leaves_rows done.now.order.now.reference (L.rules.result done.now.order.now.work) state.old.rows ≡ true }
+    requires offers { offers_again (get state.old.records done.now.order.now.reference) (L.rules.result done.now.order.now.work) ≡ true }
     ensures { HasCome L.rules (come_to L.rules settings.now (Finish done.now.order.now now) state.old) result state.old state.new links.new }
 {
     let reference = &done.order().reference;
@@ -269,7 +269,7 @@ pub fn finish<L: Layers>(
     if !present_order(alloc, layers, order, state)? {
         return Ok(None);
     }
-    if leaves_rows(alloc, &order.reference, done.outcome(), &state.rows)? {
+    if offers_again(state.records.get(&order.reference), done.outcome()) {
         finish_alone(alloc, layers, settings, done, now, state, links)
     } else {
         finish_whole(alloc, layers, settings, done, now, state, links)

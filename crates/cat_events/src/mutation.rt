@@ -1,111 +1,27 @@
 //! Mutations.
-ghost use Rattle.std.specs.Prelude.{◌≡◌, ◌<◌, ◌≤◌, ◌^◌, IfOk, Option, Bool, [], cond, option_and_then};
-ghost use Rattle.std.specs.declared.option.Option.TheVariants.{None, Some};
-ghost use Rattle.std.specs.List.{list_any};
-ghost use Rattle.cat_table.specs.Table.{find, get, same_text, text_cmp};
+ghost use Rattle.std.specs.Prelude.{◌≡◌, ◌<◌, ◌≤◌, ◌^◌, IfOk, Option};
+ghost use Rattle.cat_table.specs.Table.{get};
 ghost use Rattle.cat_model.specs.declared.types.Leaving.TheVariants.{Deleted};
 ghost use Rattle.cat_model.specs.Catalogue.{frame};
 ghost use Rattle.cat_model.specs.Sound.{AreSmall};
-ghost use Rattle.cat_model.specs.Step.{items_after, mutated_state, or_else, put_all, source_at, spent, too_large, without};
+ghost use Rattle.cat_model.specs.Step.{mutated_state, or_else, source_at, spent};
 ghost use Rattle.cat_model.specs.Step.Event.{Mutate};
 ghost use Rattle.cat_frame.specs.Linked.{AreLinked};
 ghost use Rattle.cat_events.specs.Coming.{HasCome, IsLinkedStep, IsSteady, seen};
 ghost use Rattle.cat_events.specs.Stepped.{come_to, over_limit};
 
+use crate::items::next_items;
 use crate::refusal::{spent_of, unless};
 use crate::rows::replaced_rows;
 use crate::stepped::{Step, take_in};
-use crate::without::is_same;
 use cat_frame::frame::framed;
-use cat_hold::build::{Gives, tabulated};
 use cat_hold::layers::Layers;
 use cat_links::links::{LinkPlan, Links};
 use cat_model::types::{Fault, Given, Leaving, Origin, ProviderInputs, Settings, State};
-use cat_ref::reference::Ref;
-use cat_table::listing::{Copied, Listing};
+use cat_table::listing::Copied;
 use cat_tree::text::Text;
-use cat_types::input::Offered;
 use cat_types::table::Table;
 use std::alloc::{AllocError, Global};
-
-fn is_removed(refs: &[Ref], reference: &Ref) -> bool
-    ensures { result ≡ list_any (same_text reference.now) refs.now }
-{
-    for other in refs {
-        if is_same(reference, other) {
-            return true;
-        }
-    }
-    false
-}
-
-#[derive(Drop)]
-struct Without<'a> {
-    refs: &'a Listing<Ref>,
-    items: &'a Table<Ref, Offered>,
-}
-
-impl Gives<Ref, Offered> for Without<'_> {
-    ghost gives = { λ s r. option_and_then (λ x. cond (list_any (same_text r) s.refs.now) None (Some x)) (find text_cmp r s.items.now) };
-
-    fn give(&self, alloc: Global, key: &Ref) -> Result<Option<Offered>, AllocError> {
-        match self.items.get(key) {
-            None => Ok(None),
-            Some(offered) => {
-                if is_removed(self.refs.as_slice(), key) {
-                    Ok(None)
-                } else {
-                    Ok(Some(offered.duplicate(alloc)?))
-                }
-            }
-        }
-    }
-}
-
-fn items_left(
-    alloc: Global,
-    refs: &Listing<Ref>,
-    items: &Table<Ref, Offered>,
-) -> Result<Table<Ref, Offered>, AllocError>
-    ensures { IfOk result (λ t. t ≡ without refs.now items.now) }
-{
-    let all = items.keys(alloc)?;
-    let stays = Without { refs, items };
-    tabulated(alloc, all.as_slice(), &stays)
-}
-
-// All entries are put, the first one last.
-fn with_all(
-    alloc: Global,
-    entries: &[(Ref, Offered)],
-    base: Table<Ref, Offered>,
-) -> Result<Table<Ref, Offered>, AllocError>
-    ensures { IfOk result (λ t. t ≡ put_all entries.now base) }
-{
-    let mut made = base;
-    let mut left = entries.len();
-    while left > 0 {
-        left -= 1;
-        let (key, offered) = entries[left].duplicate(alloc)?;
-        made.put(key, offered)?;
-    }
-    Ok(made)
-}
-
-fn next_items(
-    alloc: Global,
-    x: &Given,
-    items: &Table<Ref, Offered>,
-) -> Result<Table<Ref, Offered>, AllocError>
-    ensures { IfOk result (λ t. t ≡ items_after x.now items.now) }
-{
-    if x.full {
-        with_all(alloc, x.items.as_slice(), Table::new(alloc))
-    } else {
-        let rest = items_left(alloc, &x.removed, items)?;
-        with_all(alloc, x.items.as_slice(), rest)
-    }
-}
 
 // The provider's inputs, none at first.
 fn source_of(alloc: Global, m: &State, p: &Text) -> Result<ProviderInputs, AllocError>

@@ -3,6 +3,7 @@ ghost use Rattle.std.specs.Prelude.{◌≡◌, ◌+◌, ◌<◌, ◌≤◌, ◌^
 ghost use Rattle.std.specs.Ordering.{nat_cmp};
 ghost use Rattle.cat_table.specs.Table.{find, get, keys};
 ghost use Rattle.cat_model.specs.Catalogue.{row_at};
+ghost use Rattle.cat_events.specs.Indexed.{Covers, with_row};
 ghost use Rattle.cat_model.specs.Step.{add_offer, add_offers, has_row, is_offer, offered_again, replaced, row_after, same_origin};
 
 use crate::without::is_same;
@@ -10,6 +11,7 @@ use cat_hold::build::{Gives, tabulated};
 use cat_model::types::{Numbered, Origin, Row, State};
 use cat_ref::reference::Ref;
 use cat_table::listing::Copied;
+use cat_table::map::Map;
 use cat_types::input::Offered;
 use cat_types::table::Table;
 use std::alloc::{AllocError, Global};
@@ -76,8 +78,8 @@ fn offers_it(origin: &Origin, reference: &Ref, row: Option<&Row>) -> bool
     }
 }
 
-/// Whether there is a row of this origin and reference.
-pub fn row_stands(rows: &Table<u64, Row>, origin: &Origin, reference: &Ref) -> bool
+// Whether there is a row of this origin and reference, as all rows show.
+fn row_stands(rows: &Table<u64, Row>, origin: &Origin, reference: &Ref) -> bool
     ensures { result ≡ has_row rows.now origin.now reference.now }
 {
     for (arrival, _) in rows.as_slice() {
@@ -88,21 +90,73 @@ pub fn row_stands(rows: &Table<u64, Row>, origin: &Origin, reference: &Ref) -> b
     false
 }
 
+// The rows of one origin by reference: of each the arrival.
+type Index = Map<Ref, u64>;
+
+// Puts a row into the index of an origin, where it is of that.
+fn indexed(
+    alloc: Global,
+    origin: &Origin,
+    arrival: u64,
+    row: Option<&Row>,
+    index: &mut Index,
+) -> Result<(), AllocError>
+    ensures { IfOk result (λ _. index.new ≡ with_row origin.now arrival (option_map (λ y. y.now) row.entry) index.old) }
+{
+    match row {
+        None => Ok(()),
+        Some(row) => {
+            if is_same_origin(origin, &row.origin) {
+                index.put(alloc, row.reference.duplicate(alloc)?, arrival)?;
+            }
+            Ok(())
+        }
+    }
+}
+
+// The index of an origin's rows.
+fn index_of(alloc: Global, rows: &Table<u64, Row>, origin: &Origin) -> Result<Index, AllocError>
+    ensures { IfOk result (λ index. Covers rows.now origin.now index) }
+{
+    let mut index = Map::new();
+    for (arrival, _) in rows.as_slice() {
+        indexed(alloc, origin, *arrival, rows.get(arrival), &mut index)?;
+    }
+    Ok(index)
+}
+
+// Whether there is a row of this origin and reference. What the index names is looked at: should another row stand there, all
+// rows are.
+fn has_row(rows: &Table<u64, Row>, index: &Index, origin: &Origin, reference: &Ref) -> bool
+    requires { Covers rows.now origin.now index.now }
+    ensures { result ≡ has_row rows.now origin.now reference.now }
+{
+    match index.get(reference) {
+        None => false,
+        Some(arrival) => {
+            offers_it(origin, reference, rows.get(arrival)) || row_stands(rows, origin, reference)
+        }
+    }
+}
+
 fn with_offer(
     alloc: Global,
     origin: &Origin,
     reference: &Ref,
     offered: Option<&Offered>,
     numbered: Numbered,
+    index: &mut Index,
 ) -> Result<Numbered, AllocError>
-    requires { numbered.next < 2 ^ 63 + 2 ^ 59 }
+    requires next { numbered.next < 2 ^ 63 + 2 ^ 59 }
+    requires covers { Covers numbered.rows origin.now index.old }
     ensures value { IfOk result (λ x. x ≡ add_offer origin.now reference.now (option_map (λ y. y.now) offered.entry) numbered) }
     ensures next { IfOk result (λ x. x.next ≤ numbered.next + 1) }
+    ensures covers { IfOk result (λ x. Covers x.rows origin.now index.new) }
 {
     match offered {
         None => Ok(numbered),
         Some(offered) => {
-            if row_stands(&numbered.rows, origin, reference) {
+            if has_row(&numbered.rows, index, origin, reference) {
                 return Ok(numbered);
             }
             let arrival = numbered.next;
@@ -113,6 +167,7 @@ fn with_offer(
             };
             let mut rows = numbered.rows;
             rows.put(arrival, row)?;
+            index.put(alloc, reference.duplicate(alloc)?, arrival)?;
             Ok(Numbered {
                 rows,
                 next: arrival + 1,
@@ -131,9 +186,11 @@ fn added(
     requires { first.next ≤ 2 ^ 59 }
     ensures { IfOk result (λ x. x ≡ add_offers origin.now (get offers.now) order.now first) }
 {
+    let mut index = index_of(alloc, &first.rows, origin)?;
     let mut numbered = first;
     for reference in order {
-        numbered = with_offer(alloc, origin, reference, offers.get(reference), numbered)?;
+        let offered = offers.get(reference);
+        numbered = with_offer(alloc, origin, reference, offered, numbered, &mut index)?;
     }
     Ok(numbered)
 }

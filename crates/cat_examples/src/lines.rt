@@ -5,11 +5,14 @@ ghost use Rattle.cat_tree.specs.declared.read.TreeFault.TheVariants.{Fraction, S
 ghost use Rattle.cat_ref.specs.declared.fault.RefFault.TheVariants.{NoKind};
 ghost use Rattle.cat_types.specs.declared.input.Mutation.TheVariants.{Full, Delta};
 ghost use Rattle.cat_inputs.specs.Reading.{tree_reading};
-ghost use Rattle.cat_inputs.specs.declared.fault.InputFault.TheVariants.{Json, NoRef};
-ghost use Rattle.cat_line.specs.Lines.{line_of};
-ghost use Rattle.cat_line.specs.declared.fault.LineFault.TheVariants.{BadWord, BadArguments, Input};
-ghost use Rattle.cat_line.specs.declared.line.Line.TheVariants.{Mutate, ShelfPut, Clock, Finish, Settle, Get};
-ghost use Rattle.cat_lines.specs.Lines.{lines};
+ghost use Rattle.cat_inputs.specs.declared.fault.InputFault.TheVariants.{Json, NoRef, Shape};
+ghost use Rattle.cat_inputs.specs.declared.fault.Place.TheVariants.{EntityRefs};
+ghost use Rattle.cat_commands.specs.Lines.{line_of};
+ghost use Rattle.cat_commands.specs.declared.fault.LineFault.TheVariants.{BadWord, BadArguments, Input, Query, Reference};
+ghost use Rattle.cat_query.specs.declared.ask.Ask.TheVariants.{Get, Many, Quiet};
+ghost use Rattle.cat_query.specs.declared.fault.QueryFault.TheVariants.{BadLimit};
+ghost use Rattle.cat_commands.specs.declared.line.Line.TheVariants.{Ask, Mutate, ShelfPut, Clock, Finish, Settle};
+ghost use Rattle.cat_loop.specs.Lines.{lines};
 
 /// An LF ends a line, one CR before it doesn't belong to the line, and a last line needs no LF.
 pub fn lines_are_cut()
@@ -27,8 +30,8 @@ pub fn words_stand_alone()
 
 /// A reference has a kind, has the namespace `default` where it names none, and is folded to lower case.
 pub fn references_are_full()
-    ensures get { line_of (codes "get component:web") ≡ Ok (Get (codes "component:default/web")) }
-    ensures folded { line_of (codes "get API:Team-A/Orders") ≡ Ok (Get (codes "api:team-a/orders")) }
+    ensures get { line_of (codes "get component:web") ≡ Ok (Ask (Get (codes "component:default/web"))) }
+    ensures folded { line_of (codes "get API:Team-A/Orders") ≡ Ok (Ask (Get (codes "api:team-a/orders"))) }
     ensures no_kind { line_of (codes "get web") ≡ Err BadArguments }
     ensures two_names { line_of (codes "get component:default/web/x") ≡ Err BadArguments }
 {}
@@ -66,6 +69,16 @@ pub fn bodies_are_mutations()
         ≡ Ok (Mutate (codes "git") (Delta 2 [] (codes "group:default/a" ∷ []))) }
     ensures no_kind { line_of (codes "delta git {\"serial\":2,\"added\":[],\"removed\":[\"a\"]}") ≡ Err (Input (NoRef 0 NoKind)) }
     ensures no_json { line_of (codes "full git {") ≡ Err (Input (Json Syntax)) }
+{}
+
+/// What is asked for by a query stands after one space, and a list or page may have none; facets want one.
+pub fn questions_are_read()
+    ensures quiet { line_of (codes "quiet") ≡ Ok (Ask Quiet) }
+    ensures no_query { line_of (codes "facets") ≡ Err BadArguments }
+    ensures bad_limit { line_of (codes "page limit=0") ≡ Err (Query BadLimit) }
+    ensures many { line_of (codes "many [\"api:a\", \"Group:b/C\"]") ≡ Ok (Ask (Many (codes "api:default/a" ∷ codes "group:b/c" ∷ []) [])) }
+    ensures no_reference { line_of (codes "many [\"api:a\", \"b\"]") ≡ Err (Reference 1) }
+    ensures no_texts { line_of (codes "many {}") ≡ Err (Input (Shape EntityRefs)) }
 {}
 
 /// A shelf text is put under the name of a target, and may be empty.

@@ -1,5 +1,5 @@
 -- Every command that a line is is ready.
-use Rattle.std.proofs.Common.{◌≡◌, ℕ, ◌^◌, Bool, true, false, List, Option, None, Some, Result, Ok, Err, IfOk, if◌then◌else◌, nat_lt, length, refl, subst}
+use Rattle.std.proofs.Common.{◌≡◌, ℕ, ◌^◌, Bool, true, false, List, [], Option, None, Some, Result, Ok, Err, IfOk, if◌then◌else◌, nat_lt, length, refl, subst}
 use Rattle.std.proofs.lemmas.Bool.{ltb-true}
 use Rattle.std.specs.Option.{ok_or}
 use Rattle.cat_ref.specs.Names.{is_name, is_shelf_name}
@@ -9,16 +9,17 @@ use Rattle.cat_inputs.specs.Inputs.{mutation_of}
 use Rattle.cat_inputs.specs.declared.fault.InputFault.{InputFault}
 use Rattle.cat_inputs.specs.declared.form.Form.{Form}
 use Rattle.cat_inputs.specs.declared.form.Form.TheVariants as form
-use Rattle.cat_line.specs.Arguments.{parted, two, utf8_in, number, as_moment}
-use Rattle.cat_line.specs.Lines.{on, reference, number_in, mutated, mutate_by, put_by, drop_by, alone, with_text, with_utf8, with_rest, by_word, line_of}
-use Rattle.cat_line.specs.Ready.{IsReady}
-use Rattle.cat_line.specs.Words.{word_named}
-use Rattle.cat_line.specs.declared.fault.LineFault.{LineFault}
-use Rattle.cat_line.specs.declared.fault.LineFault.TheVariants.{BadArguments, LongLine}
-use Rattle.cat_line.specs.declared.line.Line.{Line}
-use Rattle.cat_line.specs.declared.line.Line.TheVariants as line
-use Rattle.cat_line.specs.declared.word.Word.{Word}
-use Rattle.cat_line.specs.declared.word.Word.TheVariants as word
+use Rattle.cat_query.specs.declared.ask.Ask.TheVariants as ask
+use Rattle.cat_commands.specs.Arguments.{parted, two, utf8_in, number, as_moment}
+use Rattle.cat_commands.specs.Keywords.{keyword_named}
+use Rattle.cat_commands.specs.Lines.{on, query, question, longest_line, reference, number_in, mutated, mutate_by, put_by, drop_by, alone, with_text, with_utf8, with_rest, by_keyword, line_of}
+use Rattle.cat_commands.specs.Ready.{IsReady}
+use Rattle.cat_commands.specs.declared.fault.LineFault.{LineFault}
+use Rattle.cat_commands.specs.declared.fault.LineFault.TheVariants.{BadArguments, LongLine}
+use Rattle.cat_commands.specs.declared.keyword.Keyword.{Keyword}
+use Rattle.cat_commands.specs.declared.keyword.Keyword.TheVariants as keyword
+use Rattle.cat_commands.specs.declared.line.Line.{Line}
+use Rattle.cat_commands.specs.declared.line.Line.TheVariants as line
 use Rattle.cat_forms.specs.Ready.{HasProperTrees}
 use Rattle.cat_forms.proofs.Bodies.{IsReadMutation, mutation_is_read}
 
@@ -72,59 +73,65 @@ as_moment_ready (Some n) = pick (nat_lt n (2 ^ 53)) refl
     pick true e = record { ready = ltb-true n (2 ^ 53) e; proper = tt }
     pick false e = tt
 
--- ---- the words
+-- ---- the keywords
 
-alone_ready : (w : Word) → IfOk (alone w) IsReadLine
-alone_ready word.Full = tt
-alone_ready word.Delta = tt
-alone_ready word.Put = tt
-alone_ready word.Drop = tt
-alone_ready word.Refresh = tt
-alone_ready word.Forget = tt
-alone_ready word.Clock = tt
-alone_ready word.Take = record { ready = tt; proper = tt }
-alone_ready word.Finish = tt
-alone_ready word.Stitch = tt
-alone_ready word.Place = tt
-alone_ready word.Settle = record { ready = tt; proper = tt }
-alone_ready word.Quiet = record { ready = tt; proper = tt }
-alone_ready word.State = record { ready = tt; proper = tt }
-alone_ready word.Get = tt
-alone_ready word.List = record { ready = tt; proper = tt }
-alone_ready word.Conflicts = record { ready = tt; proper = tt }
-alone_ready word.Failed = record { ready = tt; proper = tt }
-alone_ready word.Orphans = record { ready = tt; proper = tt }
+alone_ready : (w : Keyword) → IfOk (alone w) IsReadLine
+alone_ready keyword.Full = tt
+alone_ready keyword.Delta = tt
+alone_ready keyword.Put = tt
+alone_ready keyword.Drop = tt
+alone_ready keyword.Refresh = tt
+alone_ready keyword.Forget = tt
+alone_ready keyword.Clock = tt
+alone_ready keyword.Take = record { ready = tt; proper = tt }
+alone_ready keyword.Finish = tt
+alone_ready keyword.Stitch = tt
+alone_ready keyword.Place = tt
+alone_ready keyword.Settle = record { ready = tt; proper = tt }
+alone_ready keyword.Quiet = record { ready = tt; proper = tt }
+alone_ready keyword.State = record { ready = tt; proper = tt }
+alone_ready keyword.Get = tt
+alone_ready keyword.List = on_any (λ q. line.Ask (ask.List q)) (query []) (λ q. record { ready = tt; proper = tt })
+alone_ready keyword.Page = on_any (λ q. line.Ask (ask.Page q)) (query []) (λ q. record { ready = tt; proper = tt })
+alone_ready keyword.Facets = tt
+alone_ready keyword.Many = tt
+alone_ready keyword.Conflicts = record { ready = tt; proper = tt }
+alone_ready keyword.Failed = record { ready = tt; proper = tt }
+alone_ready keyword.Orphans = record { ready = tt; proper = tt }
 
-text_ready : (w : Word) (text : Text) → IfOk (with_text w text) IsReadLine
-text_ready word.Full text = mutate_ready form.Full (two text)
-text_ready word.Delta text = mutate_ready form.Delta (two text)
-text_ready word.Put text = put_ready (two text)
-text_ready word.Drop text = drop_ready text
-text_ready word.Refresh text = on_any line.Refresh (reference text) (λ r. record { ready = tt; proper = tt })
-text_ready word.Forget text = on_any line.Forget (reference text) (λ r. record { ready = tt; proper = tt })
-text_ready word.Clock text = as_moment_ready (number text)
-text_ready word.Take text = tt
-text_ready word.Finish text = on_any line.Finish (number_in text) (λ n. record { ready = tt; proper = tt })
-text_ready word.Stitch text = on_any line.Stitch (number_in text) (λ n. record { ready = tt; proper = tt })
-text_ready word.Place text = on_any line.Place (number_in text) (λ n. record { ready = tt; proper = tt })
-text_ready word.Settle text = tt
-text_ready word.Quiet text = tt
-text_ready word.State text = tt
-text_ready word.Get text = on_any line.Get (reference text) (λ r. record { ready = tt; proper = tt })
-text_ready word.List text = tt
-text_ready word.Conflicts text = tt
-text_ready word.Failed text = tt
-text_ready word.Orphans text = tt
+text_ready : (w : Keyword) (text : Text) → IfOk (with_text w text) IsReadLine
+text_ready keyword.Full text = mutate_ready form.Full (two text)
+text_ready keyword.Delta text = mutate_ready form.Delta (two text)
+text_ready keyword.Put text = put_ready (two text)
+text_ready keyword.Drop text = drop_ready text
+text_ready keyword.Refresh text = on_any line.Refresh (reference text) (λ r. record { ready = tt; proper = tt })
+text_ready keyword.Forget text = on_any line.Forget (reference text) (λ r. record { ready = tt; proper = tt })
+text_ready keyword.Clock text = as_moment_ready (number text)
+text_ready keyword.Take text = tt
+text_ready keyword.Finish text = on_any line.Finish (number_in text) (λ n. record { ready = tt; proper = tt })
+text_ready keyword.Stitch text = on_any line.Stitch (number_in text) (λ n. record { ready = tt; proper = tt })
+text_ready keyword.Place text = on_any line.Place (number_in text) (λ n. record { ready = tt; proper = tt })
+text_ready keyword.Settle text = tt
+text_ready keyword.Quiet text = tt
+text_ready keyword.State text = tt
+text_ready keyword.Get text = on_any line.Ask (question keyword.Get text) (λ a. record { ready = tt; proper = tt })
+text_ready keyword.List text = on_any line.Ask (question keyword.List text) (λ a. record { ready = tt; proper = tt })
+text_ready keyword.Page text = on_any line.Ask (question keyword.Page text) (λ a. record { ready = tt; proper = tt })
+text_ready keyword.Facets text = on_any line.Ask (question keyword.Facets text) (λ a. record { ready = tt; proper = tt })
+text_ready keyword.Many text = on_any line.Ask (question keyword.Many text) (λ a. record { ready = tt; proper = tt })
+text_ready keyword.Conflicts text = tt
+text_ready keyword.Failed text = tt
+text_ready keyword.Orphans text = tt
 
-utf8_ready : (w : Word) (o : Option Text) → IfOk (with_utf8 w o) IsReadLine
+utf8_ready : (w : Keyword) (o : Option Text) → IfOk (with_utf8 w o) IsReadLine
 utf8_ready w None = tt
 utf8_ready w (Some text) = text_ready w text
 
-rest_ready : (w : Word) (rest : Option (List ℕ)) → IfOk (with_rest w rest) IsReadLine
+rest_ready : (w : Keyword) (rest : Option (List ℕ)) → IfOk (with_rest w rest) IsReadLine
 rest_ready w None = alone_ready w
 rest_ready w (Some rest) = utf8_ready w (utf8_in rest)
 
-word_ready : (w : Option Word) (rest : Option (List ℕ)) → IfOk (by_word w rest) IsReadLine
+word_ready : (w : Option Keyword) (rest : Option (List ℕ)) → IfOk (by_keyword w rest) IsReadLine
 word_ready None rest = tt
 word_ready (Some w) rest = rest_ready w rest
 
@@ -134,7 +141,7 @@ either_ready false r h = h
 
 line_is_read : (bytes : List ℕ) → IfOk (line_of bytes) IsReadLine
 unfolding line_of
-line_is_read bytes = either_ready (nat_lt 8388608 (length bytes)) (by_word (word_named (parted bytes).0) (parted bytes).1) (word_ready (word_named (parted bytes).0) (parted bytes).1)
+line_is_read bytes = either_ready (nat_lt longest_line (length bytes)) (by_keyword (keyword_named (parted bytes).0) (parted bytes).1) (word_ready (keyword_named (parted bytes).0) (parted bytes).1)
 
 pub line_ready : (bytes : List ℕ) (l : Line) → line_of bytes ≡ Ok l → IsReadLine l
 line_ready bytes l e = subst (λ r. IfOk r IsReadLine) e (line_is_read bytes)

@@ -6,13 +6,13 @@ use Rattle.std.specs.declared.result.Result.{Result}
 use Rattle.std.specs.declared.result.Result.TheVariants.{Ok, Err}
 use Rattle.std.specs.Ordering.{nat_cmp}
 use Rattle.cat_table.specs.Table.{find}
-use Rattle.cat_lines.specs.Word.{Word, plain, memory, cut}
-use Rattle.cat_lines.specs.Runs.{line_after, after_lines}
-use Rattle.cat_lines.specs.declared.buffer.TheConstants.{LINE_LIMIT}
-use Rattle.cat_line.specs.Lines.{line_of}
-use Rattle.cat_line.specs.declared.line.Line.{Line}
-use Rattle.cat_line.specs.declared.line.Line.TheVariants as asks
-use Rattle.cat_line.specs.declared.fault.LineFault.{LineFault}
+use Rattle.cat_loop.specs.Word.{Word, plain, memory, cut}
+use Rattle.cat_loop.specs.Runs.{line_after, after_lines}
+use Rattle.cat_loop.specs.Lines.{longest_line}
+use Rattle.cat_commands.specs.Lines.{line_of}
+use Rattle.cat_commands.specs.declared.line.Line.{Line}
+use Rattle.cat_commands.specs.declared.line.Line.TheVariants as asks
+use Rattle.cat_commands.specs.declared.fault.LineFault.{LineFault}
 use Rattle.cat_model.specs.Catalogue.{Rules}
 use Rattle.cat_model.specs.Formed.{FormRules, IsFormedGiven}
 use Rattle.cat_model.specs.Given.{given}
@@ -60,13 +60,7 @@ module _ (rules : Rules) (form : FormRules rules) (s : Settings) where
   carried w (asks.Stitch after) m g h = handed (next_stitch rules m.state after) m h
   carried w (asks.Place ticket) m g h = placed (find nat_cmp ticket m.stitches) m h
   carried w asks.Settle m g h = settle_holds rules form s m.now (limit_of w) m.state h
-  carried w asks.Quiet m g h = h
-  carried w asks.State m g h = h
-  carried w (asks.Get r) m g h = h
-  carried w asks.List m g h = h
-  carried w asks.Conflicts m g h = h
-  carried w asks.Failed m g h = h
-  carried w asks.Orphans m g h = h
+  carried w (asks.Ask ask) m g h = h
 
   module _ (gives : (bytes : List ℕ) (line : Line) → line_of bytes ≡ Ok line → IsFormedLine form line) where
     resulted : (w : Word) (bytes : List ℕ) (o : Result Line LineFault) (m : SessionState) → line_of bytes ≡ o → Stands m → Stands (after_result rules s w o m)
@@ -83,9 +77,9 @@ module _ (rules : Rules) (form : FormRules rules) (s : Settings) where
 
     line_stands : (m : SessionState) (w : Word) (bytes : List ℕ) → Stands m → Stands (line_after (session_after rules s) m w bytes)
     unfolding line_after
-    line_stands m plain bytes h = either_stands (nat_lt LINE_LIMIT (length bytes)) m _ h (after_stands m plain bytes h)
+    line_stands m plain bytes h = either_stands (nat_lt longest_line (length bytes)) m _ h (after_stands m plain bytes h)
     line_stands m memory bytes h = h
-    line_stands m (cut n) bytes h = either_stands (nat_lt LINE_LIMIT (length bytes)) m _ h (after_stands m (cut n) bytes h)
+    line_stands m (cut n) bytes h = either_stands (nat_lt longest_line (length bytes)) m _ h (after_stands m (cut n) bytes h)
 
     pub lines_stand : (m : SessionState) (lines : List (List ℕ)) (words : List Word) → Stands m → Stands (after_lines (session_after rules s) m lines words)
     lines_stand m [] words h = h

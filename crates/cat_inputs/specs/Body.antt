@@ -51,6 +51,7 @@ each_from f i (x ∷ xs) = onto (f i x) (each_from f (suc i) xs)
 abbrev pub is_serial : ℕ → Bool
 is_serial n = nat_lt 0 n && nat_lt n (2 ^ 53)
 
+-- the serial number that a field holds, if it holds one
 abbrev pub serial_in : Option Data → Option ℕ
 serial_in None = None
 serial_in (Some null) = None
@@ -70,10 +71,12 @@ abbrev pub key_in : Option (List ℕ) → Option (Option (List ℕ))
 key_in None = None
 key_in (Some k) = if is_key k then Some (Some k) else None
 
+-- the location key that a field holds, where it is absent or well-formed
 abbrev pub key_at : Option Data → Option (Option (List ℕ))
 key_at None = Some None
 key_at (Some d) = key_in (text_in d)
 
+-- an item of an entity and a well-formed key
 abbrev pub entry_with : Option Data → Option (Option (List ℕ)) → Option Entry
 entry_with None key = None
 entry_with (Some d) None = None
@@ -88,6 +91,7 @@ abbrev pub entries_from : Place → Items → Result (List Entry) InputFault
 entries_from place no_items = Ok []
 entries_from place (item d ds) = onto (ok_or (entry_in d) (Shape place)) (entries_from place ds)
 
+-- the items of a field that is a list of items
 abbrev pub entries_in : Place → Option Data → Result (List Entry) InputFault
 entries_in place None = Err (Shape place)
 entries_in place (Some null) = Err (Shape place)
@@ -102,6 +106,7 @@ abbrev pub texts_from : Place → Items → Result (List (List ℕ)) InputFault
 texts_from place no_items = Ok []
 texts_from place (item d ds) = onto (ok_or (text_in d) (Shape place)) (texts_from place ds)
 
+-- the texts of a field that is a list of texts
 abbrev pub texts_in : Place → Option Data → Result (List (List ℕ)) InputFault
 texts_in place None = Err (Shape place)
 texts_in place (Some null) = Err (Shape place)
@@ -111,18 +116,23 @@ texts_in place (Some (words s)) = Err (Shape place)
 texts_in place (Some (list ds)) = texts_from place ds
 texts_in place (Some (dict ms)) = Err (Shape place)
 
+-- the field with the name of this place
 abbrev pub field : Place → Data → Option Data
 field place d = child_of (place_text place) d
 
+-- the serial number of a body
 abbrev pub serial_of : Data → Result ℕ InputFault
 serial_of d = ok_or (serial_in (field Serial d)) (Shape Serial)
 
+-- the items under a field of a body
 abbrev pub entries_of : Place → Data → Result (List Entry) InputFault
 entries_of place d = entries_in place (field place d)
 
+-- the texts under a field of a body
 abbrev pub texts_of : Place → Data → Result (List (List ℕ)) InputFault
 texts_of place d = texts_in place (field place d)
 
+-- a body of these parts
 abbrev pub body_with : ℕ → List Entry → List (List ℕ) → Body
 body_with serial entries removed = record { serial = serial; entries = entries; removed = removed }
 

@@ -36,6 +36,7 @@ item_named i e (Err fault) = Err (unnamed i fault)
 abbrev pub item_at : ℕ → Entry → Result Item InputFault
 item_at i e = item_named i e (described e.entity)
 
+-- the reference at place i, or that place with the fault of its reading
 abbrev pub named_at : ℕ → Result Text RefFault → Result Text InputFault
 named_at i (Ok r) = Ok r
 named_at i (Err fault) = Err (unnamed i fault)
@@ -51,10 +52,12 @@ repeated seen i (t ∷ ts) = if list_any (bytes_eq t) seen then Some i else repe
 
 -- ---- the refusals of a body whose fields have their forms, in order
 
+-- what comes next, unless a place is at fault
 abbrev pub unless : {A : Type 0} → Option ℕ → (ℕ → InputFault) → Result A InputFault → Result A InputFault
 unless None fault next = next
 unless (Some i) fault next = Err (fault i)
 
+-- the mutation of this form
 abbrev pub mutation_with : Form → ℕ → List Item → List Text → Mutation
 mutation_with Full serial items refs = mutation.Full serial items
 mutation_with Delta serial items refs = mutation.Delta serial items refs
@@ -83,6 +86,7 @@ checked form b =
 abbrev pub mutation_from : Form → Data → Result Mutation InputFault
 mutation_from form d = and_then (body_in form d) (checked form)
 
+-- the mutation of a tree that was read
 abbrev pub mutation_read : Form → Result Data TreeFault → Result Mutation InputFault
 mutation_read form (Ok d) = mutation_from form d
 mutation_read form (Err fault) = Err (json_fault fault)

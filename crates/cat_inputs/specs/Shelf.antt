@@ -27,6 +27,7 @@ descriptors (words s) = Err Shape
 descriptors (list ds) = objects_from ds
 descriptors (dict ms) = Ok (dict ms ∷ [])
 
+-- a descriptor under the reference that was read of it
 abbrev pub listed_as : ℕ → Data → Result Text RefFault → Result Listed ShelfFault
 listed_as i d (Ok r) = Ok (record { reference = r; tree = d })
 listed_as i d (Err fault) = Err (unlisted i fault)
@@ -35,6 +36,7 @@ listed_as i d (Err fault) = Err (unlisted i fault)
 abbrev pub listed_at : ℕ → Data → Result Listed ShelfFault
 listed_at i d = listed_as i d (described d)
 
+-- what comes next, unless a descriptor is too deep
 abbrev pub unless_deep : Option ℕ → Result (List Listed) ShelfFault → Result (List Listed) ShelfFault
 unless_deep None next = next
 unless_deep (Some i) next = Err (Deep i)
@@ -47,6 +49,7 @@ shallow ds = unless_deep (first_deep 0 ds) (each_from listed_at 0 ds)
 abbrev pub shelf_from : Data → Result (List Listed) ShelfFault
 shelf_from d = and_then (descriptors d) shallow
 
+-- the descriptors of a tree that was read
 abbrev pub shelf_read : Result Data TreeFault → Result (List Listed) ShelfFault
 shelf_read (Ok d) = shelf_from d
 shelf_read (Err fault) = Err (text_fault fault)

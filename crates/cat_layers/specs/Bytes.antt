@@ -10,6 +10,7 @@ use Rattle.cat_model.specs.declared.types.ProviderInputs.{ProviderInputs}
 abbrev pub item_bytes : Text × Offered → ℕ
 item_bytes e = length (text_of e.1.tree)
 
+-- the lengths of the compact texts of a provider's items
 abbrev pub provider_bytes : Text × ProviderInputs → ℕ
 provider_bytes e = sum_by item_bytes e.1.items
 

@@ -12,9 +12,11 @@ use Rattle.cat_inputs.specs.declared.fault.ShelfFault.{ShelfFault}
 use Rattle.cat_inputs.specs.declared.shelf.Listed.{Listed}
 use Rattle.cat_inputs.specs.Shelf.{shelf_reading}
 
+-- the annotation that says where an entity comes from
 abbrev pub location_key : Text
 location_key = codes "backstage.io/managed-by-location"
 
+-- the annotation that says where it comes from at first
 abbrev pub origin_key : Text
 origin_key = codes "backstage.io/managed-by-origin-location"
 
@@ -30,6 +32,7 @@ origin_of parent name = unwrap_or (text_at (option_and_then (child_of origin_key
 abbrev pub located : Text → Text → Data → Data
 located origin name annotations = with_key origin_key (words origin) (with_key location_key (words name) annotations)
 
+-- a descriptor with these annotations in its metadata
 abbrev pub with_annotations : Data → Data → Data → Data
 with_annotations d metadata annotations =
     with_key (codes "metadata") (with_key (codes "annotations") annotations metadata) d
@@ -40,6 +43,7 @@ annotated_in origin name d metadata None = with_annotations d metadata (located 
 annotated_in origin name d metadata (Some annotations) =
     if is_map annotations then with_annotations d metadata (located origin name annotations) else d
 
+-- a descriptor with annotations, where it has metadata
 abbrev pub annotated_at : Text → Text → Data → Option Data → Data
 annotated_at origin name d None = d
 annotated_at origin name d (Some metadata) = annotated_in origin name d metadata (child_of (codes "annotations") metadata)
@@ -52,10 +56,12 @@ annotated origin name d = annotated_at origin name d (child_of (codes "metadata"
 abbrev pub offer : Text → Text → Listed → Text × Offered
 offer origin name x = (x.reference, record { key = name; tree = annotated origin name x.tree })
 
+-- the offers of the descriptors that a text lists
 abbrev pub listed_offers : Text → Text → Result (List Listed) ShelfFault → Map Offered
 listed_offers origin name (Ok xs) = map (offer origin name) xs
 listed_offers origin name (Err fault) = []
 
+-- the offers of a text, if it is there
 abbrev pub body_offers : Text → Text → Option Text → Map Offered
 body_offers origin name None = []
 body_offers origin name (Some body) = listed_offers origin name (shelf_reading body)
@@ -70,6 +76,7 @@ all_offers parent contents = flat_map (content_offers parent) contents
 
 -- ---- references that are offered twice
 
+-- the reference of an offer was offered before
 abbrev pub is_seen : List Text → Text × Offered → Bool
 is_seen seen e = list_any (same_text e.0) seen
 

@@ -31,6 +31,7 @@ use Rattle.cat_process.specs.Offers.{all_offers, firsts, repeats}
 
 -- ---- the contents of an entity's targets
 
+-- the name of a kind is Location
 abbrev pub is_named_location : Option Text → Bool
 is_named_location None = false
 is_named_location (Some kind) = bytes_eq kind (codes "Location")
@@ -43,6 +44,7 @@ is_location d = is_named_location (text_at (child_of (codes "kind") d))
 abbrev pub entity_targets : Data → Result (List Target) TargetFault
 entity_targets d = if is_location d then targets_of d else Ok []
 
+-- the targets, and none where they are at fault
 abbrev pub unless_faulty : Result (List Target) TargetFault → List Target
 unless_faulty (Ok targets) = targets
 unless_faulty (Err fault) = []
@@ -51,6 +53,7 @@ unless_faulty (Err fault) = []
 unfoldable pub wanted_of : Data → List Target
 wanted_of d = if length (breaches d) == 0 then unless_faulty (entity_targets d) else []
 
+-- the text that the shelf has for a target
 abbrev pub content_from : Map Text → Target → Content
 content_from shelf t = record { name = t.name; body = get shelf t.name }
 
@@ -64,9 +67,11 @@ work_on d shelf = record { tree = d; contents = contents_of d shelf }
 
 -- ---- what is wrong with an entity
 
+-- an issue of level error
 abbrev pub error : IssueName → Text → Issue
 error name message = record { level = Error; name = name; message = message }
 
+-- the issue of a breach of the descriptor format
 abbrev pub schema_issue : SchemaFault → Issue
 schema_issue fault = error issue.SchemaFault (schema_text fault)
 
@@ -74,6 +79,7 @@ schema_issue fault = error issue.SchemaFault (schema_text fault)
 unfoldable pub schema_issues : Data → List Issue
 schema_issues d = map schema_issue (breaches d)
 
+-- the issue of a reference field without a reading
 abbrev pub reference_issue : KindFault → Issue
 reference_issue fault = error issue.ReferenceFault (kind_text fault)
 
@@ -81,6 +87,7 @@ reference_issue fault = error issue.ReferenceFault (kind_text fault)
 unfoldable pub reference_issues : Data → List Issue
 reference_issues d = map reference_issue (kind_faults d)
 
+-- the issue of targets that are at fault
 abbrev pub target_issues_in : Result (List Target) TargetFault → List Issue
 target_issues_in (Ok targets) = []
 target_issues_in (Err fault) = error issue.TargetFault (target_text fault) ∷ []
@@ -89,6 +96,7 @@ target_issues_in (Err fault) = error issue.TargetFault (target_text fault) ∷ [
 unfoldable pub target_issues : Data → List Issue
 target_issues d = target_issues_in (entity_targets d)
 
+-- an issue where a text lists no descriptors
 abbrev pub listing_issues : Text → Result (List Listed) ShelfFault → List Issue
 listing_issues name (Ok listed) = []
 listing_issues name (Err fault) = error issue.ShelfFault (spaced name (shelf_text fault)) ∷ []
@@ -98,6 +106,7 @@ abbrev pub body_issues : Bool → Text → Option Text → List Issue
 body_issues optional name None = if optional then [] else error issue.MissingTarget name ∷ []
 body_issues optional name (Some body) = listing_issues name (shelf_reading body)
 
+-- the issue of a content, if it is at fault
 abbrev pub content_issue : Bool → Content → List Issue
 content_issue optional c = body_issues optional c.name c.body
 
@@ -107,10 +116,12 @@ content_issues d contents = flat_map (content_issue (is_optional d)) contents
 
 -- ---- the result
 
+-- metadata with the namespace `default`, where there is none
 abbrev pub with_default : Data → Data → Option Data → Data
 with_default d metadata None = with_key (codes "metadata") (with_key (codes "namespace") (words (codes "default")) metadata) d
 with_default d metadata (Some namespace) = d
 
+-- a tree whose metadata, if it has any, has a namespace
 abbrev pub with_default_in : Data → Option Data → Data
 with_default_in d None = d
 with_default_in d (Some metadata) = with_default d metadata (child_of (codes "namespace") metadata)
@@ -123,6 +134,7 @@ entity_of d = with_default_in d (child_of (codes "metadata") d)
 abbrev pub duplicate : Text × Offered → Issue
 duplicate e = record { level = Warning; name = issue.DuplicateOffer; message = spaced e.0 e.1.key }
 
+-- the good result: the processed entity with the first offer of each reference, and a warning for each other offer
 abbrev pub good : Data → Map Offered → Outcome
 good d offers = Good (record { entity = entity_of d; offers = firsts [] offers }) (map duplicate (repeats [] offers))
 
@@ -143,6 +155,7 @@ result_of w =
 
 -- ---- the references that a shelf gives
 
+-- the references of the descriptors that a text lists
 abbrev pub listed_refs : Result (List Listed) ShelfFault → List Text
 listed_refs (Ok listed) = map (λ x. x.reference) listed
 listed_refs (Err fault) = []

@@ -2,4 +2,5 @@ pub mod Ordered
 pub mod Kept
 pub mod Parted
 pub mod Spelled
-pub mod Counted
+pub mod Numbers
+pub mod Texts

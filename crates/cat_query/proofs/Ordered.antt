@@ -1,11 +1,12 @@
 -- The first documents of an order, kept while one document after the other comes in.
 use Rattle.std.proofs.Common.{◌≡◌, ℕ, zero, suc, ◌+◌, ◌-◌, ◌<◌, ◌≤◌, Bool, true, false, cond, List, [], ◌∷◌, length, take, drop, map, Option, Some, None, refl, sym, ap, ◌∙◌, arith, ◌++◌, append_assoc, get_or, subst, true≢false}
 use Rattle.std.specs.Prelude.{slice_get, nat_lt}
-use Rattle.std.specs.List.{filter_map, cons_option, count_by, insert}
+use Rattle.std.specs.Borrow.{Bor}
+use Rattle.cat_tree.specs.declared.tree.Tree.{Tree}
+use Rattle.std.specs.List.{filter_map, cons_option, insert}
 use Rattle.std.proofs.lemmas.Bool.Decides.{nat_tests}
-use Rattle.std.proofs.lemmas.List.Sums.{sum_by-cons}
 use Rattle.std.proofs.lemmas.List.{take-map, length-take, map-append, drop_more, drop_all, take_more as take_more_items}
-use Rattle.cat_query.specs.Page.{Pair, Ranked, place_of, comes_before, inserted, in_page_order, kept_with, cursor_of, next_after, page_items}
+use Rattle.cat_query.specs.Page.{Pair, Ranked, pair_seen, place_of, comes_before, inserted, in_page_order, kept_with, cursor_of, next_after, page_items}
 use Rattle.cat_query.specs.Seen.{ranked_seen, pair_of}
 use Rattle.cat_query.specs.declared.rank.Ranked.{Ranked as Lent}
 
@@ -33,17 +34,13 @@ with_one : (f : Bool) (n : ℕ) (c : Option Ranked) (rs : List Ranked) → kept_
 with_one f n None rs = refl
 with_one f n (Some r) rs = take-inserted f n r (in_page_order f rs)
 
-pub drop_at : (ps : List Pair) (i : ℕ) (x : Pair) → slice_get ps i ≡ Some x → drop i ps ≡ x ∷ drop (suc i) ps
-drop_at [] i x e = cc
-drop_at (p ∷ ps) zero x e = let same : p ≡ x = cc in ap (λ q. q ∷ ps) same
-drop_at (p ∷ ps) (suc i) x e = drop_at ps i x e
-
 -- the first of the documents from a place on, where those from the next place on were kept
-pub kept_more : (f : Bool) (n : ℕ) (g : Pair → Option Ranked) (ps : List Pair) (i j : ℕ) (x : Pair) (old new : List Ranked) → suc i ≡ j → slice_get ps i ≡ Some x → old ≡ take n (in_page_order f (filter_map g (drop j ps))) → new ≡ kept_with f n (g x) old → new ≡ take n (in_page_order f (filter_map g (drop i ps)))
-kept_more f n g ps i j x old new next at was is =
-    is ∙ ap (kept_with f n (g x)) (was ∙ ap (λ k. take n (in_page_order f (filter_map g (drop k ps)))) (sym next))
-    ∙ with_one f n (g x) (filter_map g (drop (suc i) ps))
-    ∙ ap (λ l. take n (in_page_order f (filter_map g l))) (sym (drop_at ps i x at))
+pub kept_more : (f : Bool) (n : ℕ) (g : Pair → Option Ranked) (xs : List (Bor (List ℕ) × Bor Tree)) (i : ℕ) (x : Bor (List ℕ) × Bor Tree) (old new : List Ranked) → i < length xs → x ≡ get_or xs i x
+    → old ≡ take n (in_page_order f (filter_map g (map pair_seen (drop (i + 1) xs)))) → new ≡ kept_with f n (g (pair_seen x)) old → new ≡ take n (in_page_order f (filter_map g (map pair_seen (drop i xs))))
+kept_more f n g xs i x old new h at was is =
+    is ∙ ap (kept_with f n (g (pair_seen x))) was
+    ∙ with_one f n (g (pair_seen x)) (filter_map g (map pair_seen (drop (i + 1) xs)))
+    ∙ ap (λ l. take n (in_page_order f (filter_map g (map pair_seen l)))) (sym (drop_more xs i x h ∙ ap (λ y. y ∷ drop (i + 1) xs) (sym at)))
 
 pairs_of : (xs : List Lent) → map pair_of xs ≡ map (λ r. r.1) (map ranked_seen xs)
 pairs_of [] = refl
@@ -68,17 +65,6 @@ more_taken n rs = rw length-take (grind (arith, nat_tests))
 pub next_from : (n : ℕ) (rs : List Ranked) → 1 ≤ n → next_after n (take (suc n) rs) ≡ next_after n rs
 next_from n rs h =
     (λ i. cond (more_taken n rs i) (cursor_of (get_taken (suc n) (n - 1) rs (omega arith) i)) None)
-
-count_step : (t : Bool) (n k : ℕ) → n ≡ k → cond t (n + 1) n ≡ cond t 1 0 + k
-count_step true n k e = omega (arith, e)
-count_step false n k e = omega (arith, e)
-
--- one more is counted, if it passes
-pub counted_more : (p : Pair → Bool) (ps : List Pair) (i j : ℕ) (x : Pair) (n : ℕ) → suc i ≡ j → slice_get ps i ≡ Some x → n ≡ count_by p (drop j ps) → cond (p x) (n + 1) n ≡ count_by p (drop i ps)
-counted_more p ps i j x n next at e =
-    count_step (p x) n (count_by p (drop (suc i) ps)) (e ∙ ap (λ k. count_by p (drop k ps)) (sym next))
-    ∙ sym (sum_by-cons (λ q. cond (p q) 1 0) x (drop (suc i) ps))
-    ∙ ap (count_by p) (sym (drop_at ps i x at))
 
 -- ---- where a document is put
 
@@ -111,12 +97,6 @@ put_later f r xs i x all h at before e =
 -- past the last one it stands last
 pub put_last : (f : Bool) (r : Ranked) (xs : List Lent) (i : ℕ) → length xs ≤ i → inserted f r (map ranked_seen (drop i xs)) ≡ r ∷ map ranked_seen (drop i xs)
 put_last f r xs i h = ap (λ l. inserted f r (map ranked_seen l)) (drop_all i xs h) ∙ ap (λ l. r ∷ map ranked_seen l) (sym (drop_all i xs h))
-
-pub counted_yes : (p : Pair → Bool) (ps : List Pair) (i j : ℕ) (x : Pair) (n : ℕ) (t : Bool) → suc i ≡ j → slice_get ps i ≡ Some x → t ≡ p x → t ≡ true → n ≡ count_by p (drop j ps) → n + 1 ≡ count_by p (drop i ps)
-counted_yes p ps i j x n t next at is h e = ap (λ b. cond b (n + 1) n) (sym (sym is ∙ h)) ∙ counted_more p ps i j x n next at e
-
-pub counted_no : (p : Pair → Bool) (ps : List Pair) (i j : ℕ) (x : Pair) (n : ℕ) (t : Bool) → suc i ≡ j → slice_get ps i ≡ Some x → t ≡ p x → t ≡ false → n ≡ count_by p (drop j ps) → n ≡ count_by p (drop i ps)
-counted_no p ps i j x n t next at is h e = ap (λ b. cond b (n + 1) n) (sym (sym is ∙ h)) ∙ counted_more p ps i j x n next at e
 
 -- what is kept after a document was put in its place
 pub put_in : (f : Bool) (n : ℕ) (r : Lent) (xs ys new seen : List Lent) (i : ℕ) → seen ≡ xs → inserted f (ranked_seen r) (map ranked_seen seen) ≡ map ranked_seen (take i seen) ++ ranked_seen r ∷ map ranked_seen (drop i seen) → ys ≡ insert xs i r → new ≡ take n ys → map ranked_seen new ≡ take n (inserted f (ranked_seen r) (map ranked_seen xs))

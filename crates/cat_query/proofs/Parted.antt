@@ -1,5 +1,5 @@
 -- Filters that are read one after the other, and numbers of many digits.
-use Rattle.std.proofs.Common.{◌≡◌, ℕ, ◌*◌, ◌+◌, ◌-◌, List, [], ◌∷◌, ◌++◌, Result, Ok, Err, min, fold, ◌<◌, length, get_or, drop, refl, ap, sym, ◌∙◌, arith}
+use Rattle.std.proofs.Common.{◌≡◌, ℕ, ◌*◌, ◌+◌, ◌-◌, List, [], ◌∷◌, ◌++◌, Result, Ok, Err, min, fold, ◌<◌, length, get_or, drop, ap, sym, ◌∙◌, arith}
 use Rattle.std.proofs.lemmas.List.{drop_more}
 use Rattle.cat_search.specs.declared.condition.Condition.{Condition}
 use Rattle.cat_query.specs.declared.fault.QueryFault.{QueryFault}

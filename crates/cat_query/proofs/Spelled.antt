@@ -7,7 +7,7 @@ use Rattle.base64.specs.GeneralPurpose.{decode_of, encode_of}
 use Rattle.serde_json.specs.Data as json
 use Rattle.serde_json.specs.Read.{read}
 use Rattle.serde_json.specs.Written.{has_float}
-use Rattle.cat_tree.specs.Data.{Data, item, items_of, list, no_items, words}
+use Rattle.cat_tree.specs.Data.{Data, item, items_of, list, no_items, null, words}
 use Rattle.cat_tree.specs.Read.{ReadsAs, IsReading, tree_of}
 use Rattle.cat_tree.specs.Text.{text_of}
 use Rattle.cat_ref.specs.Reference.{parsed}
@@ -97,3 +97,29 @@ not_two (t ∷ u ∷ []) h a b e = h refl
 not_two (t ∷ u ∷ v ∷ ws) h a b e = cc
 
 pub ruleset twos = (two_items, not_two)
+
+-- ---- a text is one cursor at most
+
+null≢words : (s : List ℕ) → null ≡ words s → ⊥
+null≢words s e = cc
+
+same_value : (v w : Option (List ℕ)) → value_data v ≡ value_data w → v ≡ w
+same_value None None e = refl
+same_value None (Some w) e = absurd (null≢words w e)
+same_value (Some v) None e = absurd (null≢words v (sym e))
+same_value (Some v) (Some w) e = cc
+
+same_words : (r s : List ℕ) → words r ≡ words s → r ≡ s
+same_words r s e = cc
+
+same_places : (c d : Cursor) → cursor_data c ≡ cursor_data d → c ≡ d
+same_places c d e =
+    let values : c.value ≡ d.value = same_value c.value d.value (first_of_two (value_data c.value) (words c.reference) (value_data d.value) (words d.reference) e) in
+    let references : c.reference ≡ d.reference = same_words c.reference d.reference (second_of_two (value_data c.value) (words c.reference) (value_data d.value) (words d.reference) e) in
+    (λ i. record { value = values i; reference = references i })
+
+pub one_cursor : (text : List ℕ) (c d : Cursor) → IsCursor text c → IsCursor text d → c ≡ d
+one_cursor text c d h k =
+    same_places c d
+    (one_tree k.bytes (cursor_data c) (cursor_data d)
+    (subst (λ s. ReadsAs s (cursor_data c)) (same_bytes (decode_of url_safe_no_pad text) h.bytes k.bytes h.decodes k.decodes) h.reads) k.reads)

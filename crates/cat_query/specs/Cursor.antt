@@ -5,7 +5,7 @@ use Rattle.cat_query.specs.declared.fault.QueryFault.{QueryFault}
 use Rattle.cat_query.specs.declared.fault.QueryFault.TheVariants.{BadCursor}
 use Rattle.base64.specs.Engines.{url_safe_no_pad}
 use Rattle.base64.specs.GeneralPurpose.{encode_of, decode_of}
-use Rattle.cat_tree.specs.Data.{Data, null, words, list, Items, no_items, item}
+use Rattle.cat_tree.specs.Data.{Data, null, words, list, no_items, item}
 use Rattle.cat_tree.specs.Read.{ReadsAs}
 use Rattle.cat_tree.specs.Text.{text_of}
 use Rattle.cat_ref.specs.Reference.{parsed}

@@ -6,3 +6,4 @@ pub mod Query
 pub mod Cursor
 pub mod SeenQuery
 pub mod Facets
+pub mod Answers

@@ -1,6 +1,6 @@
 -- A page: the first documents of an order after a place.
-use Rattle.std.specs.Prelude.{ℕ, ◌+◌, ◌-◌, nat_lt, List, [], ◌∷◌, length, take, map, Bool, true, false, not, ◌&&◌, ◌||◌, ◌==◌, Option, Some, None, slice_get, if◌then◌else◌}
-use Rattle.std.specs.List.{list_any, count_by, filter_map}
+use Rattle.std.specs.Prelude.{ℕ, ◌-◌, nat_lt, List, [], ◌∷◌, length, take, map, Bool, true, false, not, Option, Some, None, slice_get, if◌then◌else◌}
+use Rattle.std.specs.List.{filter_map}
 use Rattle.std.specs.Ordering.{is_lt}
 use Rattle.std.specs.FinMap.Entries.{by_order}
 use Rattle.std.specs.Borrow.{Bor}
@@ -9,7 +9,7 @@ use Rattle.cat_tree.specs.View.{data_of}
 use Rattle.cat_tree.specs.declared.tree.Tree.{Tree}
 use Rattle.cat_table.specs.Table.{text_cmp}
 use Rattle.cat_search.specs.Rows.{folded, document_rows, values_at}
-use Rattle.cat_search.specs.Filter.{is_match}
+pub use Rattle.cat_search.specs.Filter.{is_accepted, matching}
 use Rattle.cat_search.specs.declared.condition.Condition.{Condition}
 use Rattle.cat_query.specs.declared.query.OrderBy.{OrderBy}
 use Rattle.cat_query.specs.declared.query.Cursor.{Cursor}
@@ -70,15 +70,9 @@ Ranked = Option (List ℕ) × Pair
 abbrev pub place_of : Ranked → Place
 place_of r = (r.0, r.1.0)
 
--- one of the filters accepts the document; without a filter all documents match
-abbrev pub is_accepted : List (List Condition) → Data → Bool
-is_accepted fs d = length fs == 0 || list_any (λ cs. is_match cs d) fs
-
--- the document with its value, where it matches and is after the cursor
-abbrev pub candidate : List (List Condition) → Option OrderBy → Option Cursor → Pair → Option Ranked
-candidate filters order cursor p =
-    if is_accepted filters p.1 && is_after (is_falling order) cursor (value_of order p.1, p.0)
-    then Some (value_of order p.1, p) else None
+-- the document with its value, where it is after the cursor
+abbrev pub candidate : Option OrderBy → Option Cursor → Pair → Option Ranked
+candidate order cursor p = if is_after (is_falling order) cursor (value_of order p.1, p.0) then Some (value_of order p.1, p) else None
 
 -- the document stands before the first one that it comes before
 abbrev pub inserted : Bool → Ranked → List Ranked → List Ranked
@@ -95,9 +89,13 @@ abbrev pub kept_with : Bool → ℕ → Option Ranked → List Ranked → List R
 kept_with falls most None rs = rs
 kept_with falls most (Some r) rs = take most (inserted falls r rs)
 
--- all that follow the cursor, in order
+-- those that follow the cursor, in order
+abbrev pub ranked : Option OrderBy → Option Cursor → List Pair → List Ranked
+ranked order cursor ps = in_page_order (is_falling order) (filter_map (candidate order cursor) ps)
+
+-- all that match and follow the cursor, in order
 abbrev pub following : List (List Condition) → Option OrderBy → Option Cursor → List Pair → List Ranked
-following filters order cursor ps = in_page_order (is_falling order) (filter_map (candidate filters order cursor) ps)
+following filters order cursor ps = ranked order cursor (matching filters ps)
 
 -- ---- the page
 
@@ -116,4 +114,4 @@ next_after limit rs = if nat_lt limit (length rs) then cursor_of (slice_get rs (
 
 -- how many documents match, wherever the page begins
 abbrev pub total_of : List (List Condition) → List Pair → ℕ
-total_of filters ps = count_by (λ p. is_accepted filters p.1) ps
+total_of filters ps = length (matching filters ps)

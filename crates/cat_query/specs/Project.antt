@@ -2,7 +2,7 @@
 use Rattle.std.specs.Prelude.{ℕ, List, [], ◌∷◌, length, Bool, ◌==◌, Option, Some, None, bytes_eq, if◌then◌else◌}
 use Rattle.std.specs.List.{list_any}
 use Rattle.std.specs.Option.{unwrap_or}
-use Rattle.cat_tree.specs.Data.{Data, null, flag, whole, words, list, dict, Items, Members, no_members, member}
+use Rattle.cat_tree.specs.Data.{Data, null, flag, whole, words, list, dict, Members, no_members, member}
 
 -- keys, each below the one before
 abbrev pub Path : Type 0

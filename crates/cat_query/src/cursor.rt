@@ -43,7 +43,8 @@ fn cursor_tree(alloc: Global, cursor: &Cursor) -> Result<Tree, AllocError>
 }
 
 fn json_of(alloc: Global, cursor: &Cursor) -> Result<Vec<u8>, AllocError>
-    ensures { IfOk result (λ v. v.items ≡ text_of (cursor_data cursor.now)) }
+    ensures text { IfOk result (λ v. v.items ≡ text_of (cursor_data cursor.now)) }
+    ensures reads_back { IfOk result (λ v. ReadsAs v.items (cursor_data cursor.now)) }
 {
     let tree = cursor_tree(alloc, cursor)?;
     let mut bytes = Vec::new(alloc);
@@ -52,9 +53,10 @@ fn json_of(alloc: Global, cursor: &Cursor) -> Result<Vec<u8>, AllocError>
 }
 
 /// The text of a cursor: the base64url text without padding of the JSON list of its value, or null, and
-/// its reference.
+/// its reference. Where its reference is one, the text reads as the cursor again.
 pub fn write_cursor(alloc: Global, cursor: &Cursor) -> Result<Text, AllocError>
-    ensures { IfOk result (λ t. t ≡ cursor_text cursor.now) }
+    ensures text { IfOk result (λ t. t ≡ cursor_text cursor.now) }
+    ensures reads_back { IfOk result (λ t. IsNamed cursor.now → IsCursor t cursor.now) }
 {
     let bytes = json_of(alloc, cursor)?;
     Ok(Text::from_string(URL_SAFE_NO_PAD.encode(alloc, bytes.as_slice())?))
@@ -192,9 +194,12 @@ fn spelled(alloc: Global, text: &str, tree: &Tree) -> Result<Cursor, QueryFault>
     }
 }
 
-/// Reads a cursor. `BadCursor` comes exactly where the text isn't what is written for a cursor.
+/// Reads a cursor, of which a text is one at most. `BadCursor` comes exactly where the text isn't what is written for a
+/// cursor.
+#[tactic(auto, using(crate::proofs::Spelled::one_cursor))]
 pub fn read_cursor(alloc: Global, text: &str) -> Result<Cursor, QueryFault>
     ensures ok { IfOk result (λ c. IsCursor text.now c) }
+    ensures one { IfOk result (λ c. (d : CursorData) → IsCursor text.now d → d ≡ c) }
     ensures err { IfErr result (λ e. (e ≡ QueryFault.NoMemory)
         ⊎ ((e ≡ QueryFault.BadCursor) × ((c : CursorData) → ¬ IsCursor text.now c))) }
 {

@@ -1,22 +1,22 @@
 //! How many documents have each value of a key.
-ghost use Rattle.std.specs.Prelude.{◌≡◌, ◌≢◌, ◌⊎◌, [], IfOk, IfErr, OnOk, Some, map};
+ghost use Rattle.std.specs.Prelude.{◌≡◌, ◌≢◌, ◌⊎◌, ℕ, List, [], IfOk, IfErr, OnOk, Some, map};
 ghost use Rattle.std.specs.Option.{unwrap_or};
 ghost use Rattle.cat_tree.specs.Data.{items_of, list};
 ghost use Rattle.cat_search.specs.Rows.{document_rows, values_at};
 ghost use Rattle.cat_table.specs.Order.{in_order};
-ghost use Rattle.cat_tree.specs.View.{data_of};
+ghost use Rattle.cat_tree.specs.View.{data_of, entry_of};
 ghost use Rattle.cat_table.specs.Table.{get, keys, tabulate, text_cmp};
-ghost use Rattle.cat_query.specs.Facets.{all_more, count_data, counts, facet_data, facet_map, facets_data, one_more, values_among};
+ghost use Rattle.cat_query.specs.Page.{pair_seen};
+ghost use Rattle.cat_query.specs.Facets.{all_more, count_data, counts, facet_data, facet_map, facets_data, how_many, one_more, values_among};
 
 use crate::documents::Documents;
 use crate::query::Query;
-use crate::rank::is_accepted;
-use cat_search::condition::Filter;
+use cat_ref::reference::Ref;
 use cat_search::values::values_at;
 use cat_table::listing::Copied;
+use cat_table::map::Map;
 use cat_tree::text::Text;
 use cat_tree::tree::{Pairs, Tree, Trees};
-use cat_types::table::Table;
 use std::alloc::{AllocError, Global};
 
 /// Why there are no facets.
@@ -40,50 +40,45 @@ impl From<AllocError> for FacetFault {
 }
 
 // The texts in order, each once.
-fn in_order(alloc: Global, texts: &[Text]) -> Result<Table<Text, ()>, AllocError>
+fn in_order(alloc: Global, texts: &[Text]) -> Result<Map<Text, ()>, AllocError>
     ensures { IfOk result (λ t. t ≡ tabulate text_cmp texts.now (λ x. Some (tt {0}))) }
 {
-    let mut table = Table::new(alloc);
+    let mut distinct = Map::new();
     let mut left = texts.len();
     while left > 0 {
         left -= 1;
-        table.put(texts[left].duplicate(alloc)?, ())?;
+        distinct.put(alloc, texts[left].duplicate(alloc)?, ())?;
     }
-    Ok(table)
+    Ok(distinct)
 }
 
-fn count_at(counts: &Table<Text, u64>, text: &Text) -> u64
+fn count_at(counts: &Map<Text, u64>, text: &Text) -> u64
     ensures { result ≡ unwrap_or (get counts.now text.now) 0 }
 {
-    match counts.get(text) {
-        Some(count) => *count,
-        None => 0,
-    }
+    counts.get(text).copied().unwrap_or(0)
 }
 
 // One more at the text. There are never so many documents that a count doesn't fit.
-fn add_one(alloc: Global, text: &Text, counts: &mut Table<Text, u64>) -> Result<(), AllocError>
+fn add_one(alloc: Global, text: &Text, counts: &mut Map<Text, u64>) -> Result<(), AllocError>
     ensures { OnOk result (counts.new ≡ one_more text.now counts.old) }
 {
     let count = count_at(counts, text);
     if count == u64::MAX {
         return Err(AllocError);
     }
-    counts.put(text.duplicate(alloc)?, count + 1)
+    counts.put(alloc, text.duplicate(alloc)?, count + 1)
 }
 
-// One more at each of the keys.
+// One more at each of the texts.
 fn add_all(
     alloc: Global,
-    texts: &[(Text, ())],
-    counts: &mut Table<Text, u64>,
+    texts: &Map<Text, ()>,
+    counts: &mut Map<Text, u64>,
 ) -> Result<(), AllocError>
     ensures { OnOk result (counts.new ≡ all_more (keys texts.now) counts.old) }
 {
-    let mut left = texts.len();
-    while left > 0 {
-        left -= 1;
-        add_one(alloc, &texts[left].0, counts)?;
+    for (text, _) in texts.iter() {
+        add_one(alloc, text, counts)?;
     }
     Ok(())
 }
@@ -93,34 +88,27 @@ fn add_document(
     alloc: Global,
     key: &str,
     document: &Tree,
-    counts: &mut Table<Text, u64>,
+    counts: &mut Map<Text, u64>,
 ) -> Result<(), AllocError>
     ensures { OnOk result (counts.new ≡ all_more (in_order text_cmp (values_at key.now (document_rows (data_of document.now)))) counts.old) }
 {
     let values = values_at(alloc, document, key)?;
     let distinct = in_order(alloc, values.as_slice())?;
-    add_all(alloc, distinct.as_slice(), counts)
+    add_all(alloc, &distinct, counts)
 }
 
-// The counts of the documents that match.
-fn counts<D: Documents>(
+/// How many of the documents have each value of a key.
+pub fn counts(
     alloc: Global,
-    docs: &D,
-    filters: &[Filter],
+    documents: &[(&Ref, &Tree)],
     key: &str,
-) -> Result<Table<Text, u64>, AllocError>
-    ensures { IfOk result (λ t. t ≡ counts (values_among filters.now key.now (D.pairs docs.now))) }
+) -> Result<Map<Text, u64>, AllocError>
+    ensures ok { IfOk result (λ t. t ≡ counts (values_among key.now (map pair_seen documents.now))) }
+    ensures each { IfOk result (λ t. (v : List ℕ) → unwrap_or (get t v) 0 ≡ how_many v (values_among key.now (map pair_seen documents.now))) }
 {
-    let mut counts = Table::new(alloc);
-    let mut left = docs.len();
-    while left > 0 {
-        left -= 1;
-        let Some((_, document)) = docs.at(left) else {
-            unreachable!()
-        };
-        if is_accepted(filters, document) {
-            add_document(alloc, key, document, &mut counts)?;
-        }
+    let mut counts = Map::new();
+    for (_, document) in documents {
+        add_document(alloc, key, document, &mut counts)?;
     }
     Ok(counts)
 }
@@ -138,44 +126,46 @@ fn count_tree(alloc: Global, value: &Text, count: u64) -> Result<Tree, AllocErro
     Ok(Tree::Map(pairs))
 }
 
-fn list_of(alloc: Global, counts: &[(Text, u64)]) -> Result<Tree, AllocError>
+fn list_of(alloc: Global, counts: &Map<Text, u64>) -> Result<Tree, AllocError>
     ensures { IfOk result (λ t. data_of t ≡ list (items_of (map count_data counts.now))) }
 {
-    let mut items = Vec::new(alloc);
-    for (value, count) in counts {
+    let mut items = Vec::with_capacity(alloc, counts.len())?;
+    for (value, count) in counts.iter() {
         items.push(count_tree(alloc, value, *count)?)?;
     }
     Ok(Tree::List(Trees::from_vec(items)))
 }
 
-fn facet<D: Documents>(
-    alloc: Global,
-    docs: &D,
-    filters: &[Filter],
-    key: &str,
-) -> Result<Tree, AllocError>
-    ensures { IfOk result (λ t. data_of t ≡ facet_data filters.now (D.pairs docs.now) key.now) }
+fn facet(alloc: Global, documents: &[(&Ref, &Tree)], key: &str) -> Result<Tree, AllocError>
+    ensures { IfOk result (λ t. data_of t ≡ facet_data (map pair_seen documents.now) key.now) }
 {
-    let counts = counts(alloc, docs, filters, key)?;
-    list_of(alloc, counts.as_slice())
+    let counts = counts(alloc, documents, key)?;
+    list_of(alloc, &counts)
 }
 
-fn facet_map<D: Documents>(
+// Each of the keys with its values.
+fn facet_list(
     alloc: Global,
-    docs: &D,
-    filters: &[Filter],
-    keys: &[Text],
-) -> Result<Pairs, AllocError>
-    ensures { IfOk result (λ ps. ps ≡ facet_map filters.now (D.pairs docs.now) keys.now) }
+    documents: &[(&Ref, &Tree)],
+    keys: &Map<Text, ()>,
+) -> Result<Vec<(Text, Tree)>, AllocError>
+    ensures { IfOk result (λ v. map entry_of v.items ≡ map (λ e. (e.0, facet_data (map pair_seen documents.now) e.0)) keys.now) }
 {
-    let mut pairs = Pairs::new(alloc);
-    let mut left = keys.len();
-    while left > 0 {
-        left -= 1;
-        let facet = facet(alloc, docs, filters, keys[left].as_str())?;
-        pairs.insert(keys[left].duplicate(alloc)?, facet)?;
+    let mut entries = Vec::with_capacity(alloc, keys.len())?;
+    for (key, _) in keys.iter() {
+        let facet = facet(alloc, documents, key.as_str())?;
+        entries.push((key.duplicate(alloc)?, facet))?;
     }
-    Ok(pairs)
+    Ok(entries)
+}
+
+fn facet_map(alloc: Global, documents: &[(&Ref, &Tree)], keys: &[Text]) -> Result<Pairs, AllocError>
+    ensures { IfOk result (λ ps. ps ≡ facet_map (map pair_seen documents.now) keys.now) }
+{
+    let distinct = in_order(alloc, keys)?;
+    distinct.in_order();
+    let entries = facet_list(alloc, documents, &distinct)?;
+    Ok(Pairs::from_vec(entries))
 }
 
 /// For each facet key of the query, as it is written, the list of `{"count":N,"value":V}`: the distinct
@@ -191,6 +181,7 @@ pub fn facets<D: Documents>(alloc: Global, docs: &D, query: &Query) -> Result<Tr
     if keys.is_empty() {
         return Err(FacetFault::NoFacet);
     }
-    let pairs = facet_map(alloc, docs, query.filters.as_slice(), keys)?;
+    let matching = docs.matching(alloc, query.filters.as_slice())?;
+    let pairs = facet_map(alloc, matching.as_slice(), keys)?;
     Ok(Tree::Map(pairs))
 }

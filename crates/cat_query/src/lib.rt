@@ -10,6 +10,8 @@
 //! query text is read, or refused by its first fault. It stands on cat_search.
 #![tactic(auto)]
 
+pub mod answers;
+pub mod ask;
 pub mod cursor;
 pub mod documents;
 pub mod facets;

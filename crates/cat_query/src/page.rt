@@ -13,7 +13,7 @@ use cat_tree::tree::Tree;
 #[derive(Drop)]
 pub struct Page<'a> {
     pub(crate) items: Vec<Ranked<'a>>,
-    pub(crate) total: usize,
+    pub(crate) total: u64,
     pub(crate) next: Option<Cursor>,
 }
 
@@ -27,7 +27,7 @@ impl<'a> Page<'a> {
     }
 
     /// How many documents match, on this page or not.
-    pub fn total(&self) -> usize
+    pub fn total(&self) -> u64
         ensures { result ≡ self.now.total }
     {
         self.total

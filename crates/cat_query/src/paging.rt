@@ -1,15 +1,16 @@
 //! The page of the documents that a query asks for.
 ghost use Rattle.std.specs.Prelude.{◌≡◌, ◌≤◌, IfOk, map, take};
-ghost use Rattle.cat_query.specs.Page.{following, next_after, page_items, total_of};
+ghost use Rattle.cat_query.specs.Page.{following, next_after, page_items, pair_seen, ranked, total_of};
 ghost use Rattle.cat_query.specs.Seen.{ranked_seen};
 ghost use Rattle.cat_query.specs.SeenPage.{items_seen};
 
 use crate::documents::Documents;
 use crate::page::Page;
 use crate::query::{Cursor, Query};
-use crate::rank::{Ranked, candidate, is_accepted, is_falling, keep};
-use cat_search::condition::Filter;
+use crate::rank::{Ranked, candidate, is_falling, keep};
+use cat_ref::reference::Ref;
 use cat_tree::text::Text;
+use cat_tree::tree::Tree;
 use std::alloc::{AllocError, Global};
 
 fn copied(alloc: Global, text: &Option<Text>) -> Result<Option<Text>, AllocError>
@@ -41,45 +42,25 @@ fn next_after(alloc: Global, limit: usize, items: &[Ranked]) -> Result<Option<Cu
     }
 }
 
-// The first candidates of all documents in order, one more than a page has.
-fn kept<'a, D: Documents>(
+// The first of the documents that follow the query's cursor, in its order.
+fn kept<'a>(
     alloc: Global,
-    docs: &'a D,
+    documents: &[(&'a Ref, &'a Tree)],
     query: &Query,
     most: usize,
 ) -> Result<Vec<Ranked<'a>>, AllocError>
     ensures { IfOk result (λ v. map ranked_seen v.items
-        ≡ take most (following query.now.filters query.now.order query.now.cursor (D.pairs docs.now))) }
+        ≡ take most (ranked query.now.order query.now.cursor (map pair_seen documents.now))) }
 {
     let mut kept = Vec::new(alloc);
-    let mut left = docs.len();
+    let mut left = documents.len();
     while left > 0 {
         left -= 1;
-        let Some((reference, document)) = docs.at(left) else {
-            unreachable!()
-        };
-        let candidate = candidate(alloc, query, reference, document)?;
+        let pair = documents[left];
+        let candidate = candidate(alloc, query, pair.0, pair.1)?;
         keep(is_falling(&query.order), most, candidate, &mut kept)?;
     }
     Ok(kept)
-}
-
-// How many documents match.
-fn total_of<D: Documents>(docs: &D, filters: &[Filter]) -> usize
-    ensures { result ≡ total_of filters.now (D.pairs docs.now) }
-{
-    let mut total = 0;
-    let mut left = docs.len();
-    while left > 0 {
-        left -= 1;
-        let Some((_, document)) = docs.at(left) else {
-            unreachable!()
-        };
-        if is_accepted(filters, document) {
-            total += 1;
-        }
-    }
-    total
 }
 
 /// The page of the documents that a query asks for: the first `limit` that match after the cursor's
@@ -96,12 +77,13 @@ pub fn page<'a, D: Documents>(
         ≡ next_after query.now.limit (following query.now.filters query.now.order query.now.cursor (D.pairs docs.now))) }
 {
     let limit = query.limit as usize;
-    let mut items = kept(alloc, docs, query, limit + 1)?;
+    let matching = docs.matching(alloc, query.filters.as_slice())?;
+    let mut items = kept(alloc, matching.as_slice(), query, limit + 1)?;
     let next = next_after(alloc, limit, items.as_slice())?;
     items.truncate(limit);
     Ok(Page {
         items,
-        total: total_of(docs, query.filters.as_slice()),
+        total: matching.len() as u64,
         next,
     })
 }

@@ -1,18 +1,14 @@
 //! Documents with their places in an order.
 ghost use Rattle.std.specs.Prelude.{◌≡◌, ◌≤◌, ◌∷◌, ◌++◌, IfOk, OnOk, length, drop, map, option_map, take};
-ghost use Rattle.std.specs.List.{list_any};
-ghost use Rattle.cat_search.specs.Filter.{is_match};
 ghost use Rattle.cat_tree.specs.View.{data_of};
-ghost use Rattle.cat_query.specs.Page.{candidate, comes_before, inserted, is_accepted, is_after, is_falling, kept_with, least, lesser, value_of};
-ghost use Rattle.cat_search.specs.Rows.{folded};
+ghost use Rattle.cat_query.specs.Page.{candidate, comes_before, inserted, is_after, is_falling, kept_with, least, lesser, value_of};
 ghost use Rattle.cat_table.specs.Table.{text_cmp};
 ghost use Rattle.std.specs.Ordering.{is_lt};
 ghost use Rattle.cat_query.specs.Seen.{place_seen, ranked_seen};
 
 use crate::query::{Cursor, OrderBy, Query};
 use cat_ref::reference::Ref;
-use cat_search::condition::Filter;
-use cat_search::matches::matches;
+use cat_search::folded::lower;
 use cat_search::values::values_at;
 use cat_tree::text::Text;
 use cat_tree::tree::Tree;
@@ -25,14 +21,6 @@ pub struct Ranked<'a> {
     pub value: Option<Text>,
     pub reference: &'a Ref,
     pub document: &'a Tree,
-}
-
-fn folded(alloc: Global, text: &Text) -> Result<Text, AllocError>
-    ensures { IfOk result (λ t. t ≡ folded text.now) }
-{
-    let mut copy = String::from_str(alloc, text.as_str())?;
-    copy.make_ascii_lowercase();
-    Ok(Text::from_string(copy))
 }
 
 fn lesser(text: Text, other: Option<Text>) -> Text
@@ -55,7 +43,7 @@ fn least(alloc: Global, texts: &[Text]) -> Result<Option<Text>, AllocError>
     let mut left = texts.len();
     while left > 0 {
         left -= 1;
-        best = Some(lesser(folded(alloc, &texts[left])?, best));
+        best = Some(lesser(lower(alloc, texts[left].as_str())?, best));
     }
     Ok(best)
 }
@@ -122,20 +110,7 @@ fn is_after(falls: bool, cursor: &Option<Cursor>, value: &Option<Text>, referenc
     }
 }
 
-fn is_any_match(filters: &[Filter], document: &Tree) -> bool
-    ensures { result ≡ list_any (λ cs. is_match cs (data_of document.now)) filters.now }
-{
-    filters.iter().any(|filter| matches(filter, document))
-}
-
-/// Whether one of the filters accepts the document; without a filter all documents match.
-pub fn is_accepted(filters: &[Filter], document: &Tree) -> bool
-    ensures { result ≡ is_accepted filters.now (data_of document.now) }
-{
-    filters.is_empty() || is_any_match(filters, document)
-}
-
-/// The document with its value, where it matches and is after the cursor.
+/// The document with its value, where it is after the cursor.
 pub fn candidate<'a>(
     alloc: Global,
     query: &Query,
@@ -143,11 +118,8 @@ pub fn candidate<'a>(
     document: &'a Tree,
 ) -> Result<Option<Ranked<'a>>, AllocError>
     ensures { IfOk result (λ o. option_map ranked_seen o
-        ≡ candidate query.now.filters query.now.order query.now.cursor (reference.now, data_of document.now)) }
+        ≡ candidate query.now.order query.now.cursor (reference.now, data_of document.now)) }
 {
-    if !is_accepted(query.filters.as_slice(), document) {
-        return Ok(None);
-    }
     let value = value_of(alloc, &query.order, document)?;
     if is_after(is_falling(&query.order), &query.cursor, &value, reference) {
         Ok(Some(Ranked {

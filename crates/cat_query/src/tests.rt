@@ -1,4 +1,5 @@
 //! Worked queries over documents.
+use crate::answers::{push_facets, push_list, push_many, push_page};
 use crate::cursor::write_cursor;
 use crate::documents::Documents;
 use crate::facets::{FacetFault, facets};
@@ -8,7 +9,7 @@ use crate::paging::page;
 use crate::project::project;
 use crate::query::Query;
 use crate::read::read_query;
-use cat_ref::reference::{Ref, ref_of};
+use cat_ref::reference::{Ref, parse, ref_of};
 use cat_tree::read::read;
 use cat_tree::tree::Tree;
 use cat_tree::write::write;
@@ -117,6 +118,29 @@ fn facets_count_documents(rt: HostRuntime) -> Result<(), Fail> {
         Ok(_) => assert!(rt; false),
         Err(fault) => assert_eq!(rt; fault, FacetFault::NoFacet),
     }
+    Ok(())
+}
+
+#[test]
+fn answers_are_appended(rt: HostRuntime) -> Result<(), Fail> {
+    let docs = table(rt.alloc(), &TYPED)?;
+    let mut out = Vec::new(rt.alloc());
+    let query = read_query(
+        rt.alloc(),
+        "limit=2&fields=metadata.name&facet=kind&filter=kind",
+    )?;
+    push_list(rt.alloc(), &mut out, &docs, &query)?;
+    push_page(rt.alloc(), &mut out, &docs, &query)?;
+    push_facets(rt.alloc(), &mut out, &docs, &query)?;
+    let web = parse(rt.alloc(), "component:web", None, "default")?;
+    let none = parse(rt.alloc(), "component:none", None, "default")?;
+    push_many(rt.alloc(), &mut out, &docs, &[none, web], &query.fields)?;
+    let wanted =
+        "[{\"metadata\":{\"name\":\"lib\"}},{\"metadata\":{\"name\":\"site\"}},{\"metadata\":{\"name\":\"web\"}}]\
+{\"items\":[{\"metadata\":{\"name\":\"lib\"}},{\"metadata\":{\"name\":\"site\"}}],\"pageInfo\":{\"nextCursor\":\"W251bGwsImNvbXBvbmVudDpkZWZhdWx0L3NpdGUiXQ\"},\"totalItems\":3}\
+{\"facets\":{\"kind\":[{\"count\":3,\"value\":\"Component\"}]}}\
+{\"items\":[null,{\"metadata\":{\"name\":\"web\"}}]}";
+    assert_eq!(rt; out.as_slice(), wanted.as_bytes());
     Ok(())
 }
 

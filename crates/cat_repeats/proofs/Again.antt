@@ -9,28 +9,27 @@ use Rattle.std.specs.Ordering.{nat_cmp}
 use Rattle.cat_table.specs.Table.{Text, find, get, put, text_cmp}
 use Rattle.cat_types.specs.declared.input.Mutation.{Mutation}
 use Rattle.cat_table.proofs.Tables.{text_total, text_antisymmetric, find-put_same}
-use Rattle.cat_line.specs.Lines.{line_of}
-use Rattle.cat_line.specs.declared.line.Line.{Line}
-use Rattle.cat_line.specs.declared.line.Line.TheVariants as asks
-use Rattle.cat_line.specs.declared.fault.LineFault.{LineFault}
-use Rattle.cat_lines.specs.Word.{Word, plain, memory, cut}
-use Rattle.cat_lines.specs.Runs.{line_after, after_lines}
-use Rattle.cat_lines.specs.declared.buffer.TheConstants.{LINE_LIMIT}
+use Rattle.cat_commands.specs.Lines.{line_of}
+use Rattle.cat_commands.specs.declared.line.Line.{Line}
+use Rattle.cat_commands.specs.declared.line.Line.TheVariants as asks
+use Rattle.cat_commands.specs.declared.fault.LineFault.{LineFault}
+use Rattle.cat_loop.specs.Word.{Word, plain, memory, cut}
+use Rattle.cat_loop.specs.Runs.{line_after, after_lines}
+use Rattle.cat_loop.specs.Lines.{longest_line}
 use Rattle.cat_model.specs.Catalogue.{Rules}
 use Rattle.cat_model.specs.Given.{given}
 use Rattle.cat_model.specs.Reply.{next_stitch}
 use Rattle.cat_model.specs.Settle.{not_begun, try_settle, width}
-use Rattle.cat_model.specs.Step.{change, items_after, last_serial, refusal, run, source_at, step}
+use Rattle.cat_model.specs.Step.{items_after, last_serial, refusal, source_at, step}
 use Rattle.cat_model.specs.Step.Event.{Mutate, ShelfPut, ShelfDrop, Refresh, Forget, Take, Finish, PutStitch}
 use Rattle.cat_model.specs.declared.types.Given.{Given}
 use Rattle.cat_model.specs.declared.types.Order.{Order}
 use Rattle.cat_model.specs.declared.types.Progress.{Progress}
-use Rattle.cat_model.specs.declared.types.ProviderInputs.{ProviderInputs}
 use Rattle.cat_model.specs.declared.types.Settings.{Settings}
 use Rattle.cat_model.specs.declared.types.State.{State}
 use Rattle.cat_model.specs.declared.types.StitchOrder.{StitchOrder}
 use Rattle.cat_laws.proofs.Cut.{Extends, exec_extends, fits_settle, step_acts}
-use Rattle.cat_laws.proofs.Plan.{exec, exec_settle, settle_plan}
+use Rattle.cat_laws.proofs.Plan.{exec_settle, settle_plan}
 use Rattle.cat_laws.proofs.Repeats.{old_mutation, run_above}
 use Rattle.cat_transcript.specs.declared.state.SessionState.{SessionState}
 use Rattle.cat_transcript.specs.Session.{after_finish, after_place, after_reading, after_result, limit_of, order_numbered, session_after, with_stitch}
@@ -96,13 +95,7 @@ module _ (rules : Rules) (s : Settings) where
     carried w (asks.Stitch after) m = handed (next_stitch rules m.state after) m
     carried w (asks.Place ticket) m = placed (find nat_cmp ticket m.stitches) m
     carried w asks.Settle m = settle_above m.now (limit_of w) m.state
-    carried w asks.Quiet m = le_refl _
-    carried w asks.State m = le_refl _
-    carried w (asks.Get r) m = le_refl _
-    carried w asks.List m = le_refl _
-    carried w asks.Conflicts m = le_refl _
-    carried w asks.Failed m = le_refl _
-    carried w asks.Orphans m = le_refl _
+    carried w (asks.Ask ask) m = le_refl _
 
     resulted : (w : Word) (o : Result Line LineFault) (m : SessionState) → Above m.state (after_result rules s w o m).state
     resulted w (Ok line) m = carried w line m
@@ -118,9 +111,9 @@ module _ (rules : Rules) (s : Settings) where
 
     line_above : (m : SessionState) (w : Word) (line : List ℕ) → Above m.state (line_after (session_after rules s) m w line).state
     unfolding line_after
-    line_above m plain line = either_above (nat_lt LINE_LIMIT (length line)) m _ (after_above m plain line)
+    line_above m plain line = either_above (nat_lt longest_line (length line)) m _ (after_above m plain line)
     line_above m memory line = le_refl _
-    line_above m (cut n) line = either_above (nat_lt LINE_LIMIT (length line)) m _ (after_above m (cut n) line)
+    line_above m (cut n) line = either_above (nat_lt longest_line (length line)) m _ (after_above m (cut n) line)
 
     pub lines_above : (m : SessionState) (lines : List (List ℕ)) (words : List Word) → Above m.state (after_lines (session_after rules s) m lines words).state
     lines_above m [] words = le_refl _
@@ -134,7 +127,7 @@ module _ (rules : Rules) (s : Settings) where
 
   same_line : (n : SessionState) (line : List ℕ) → session_after rules s n plain line ≡ n → line_after (session_after rules s) n plain line ≡ n
   unfolding line_after
-  same_line n line same = either (nat_lt LINE_LIMIT (length line))
+  same_line n line same = either (nat_lt longest_line (length line))
     where
       either : (b : Bool) → (if b then n else session_after rules s n plain line) ≡ n
       either true = refl

@@ -1,9 +1,9 @@
 //! Repeated lines.
 ghost use Rattle.std.specs.Prelude.{◌≡◌, ℕ, List, ◌≤◌, ◌++◌, ◌∷◌, length, IsNone, Ok};
-ghost use Rattle.cat_line.specs.Lines.{line_of};
-ghost use Rattle.cat_line.specs.declared.line.Line.TheVariants as asks;
-ghost use Rattle.cat_lines.specs.Runs.{after_lines};
-ghost use Rattle.cat_lines.specs.Word.{Word, plain};
+ghost use Rattle.cat_commands.specs.Lines.{line_of};
+ghost use Rattle.cat_commands.specs.declared.line.Line.TheVariants as asks;
+ghost use Rattle.cat_loop.specs.Runs.{after_lines};
+ghost use Rattle.cat_loop.specs.Word.{Word, plain};
 ghost use Rattle.cat_model.specs.Catalogue.{Rules};
 ghost use Rattle.cat_model.specs.Given.{given};
 ghost use Rattle.cat_model.specs.Step.{last_serial, refusal};

@@ -1,4 +1,4 @@
--- The replies to events.
+-- The replies to events, and the answers that are no lists.
 use Rattle.std.specs.Prelude.{ℕ, Bool, true, false, List, [], ◌∷◌, Option, None, Some, codes}
 use Rattle.std.specs.Fmt.{decimal}
 use Rattle.cat_model.specs.declared.types.Acted.{Acted}
@@ -13,7 +13,7 @@ use Rattle.cat_model.specs.declared.types.Finished.TheVariants.{Good, Bad, Late 
 use Rattle.cat_model.specs.declared.types.Placed.{Placed}
 use Rattle.cat_model.specs.declared.types.Placed.TheVariants.{Counted, Late as PlacedLate}
 use Rattle.cat_model.specs.declared.types.StateCounts.{StateCounts}
-use Rattle.cat_replies.specs.Line.{line}
+use Rattle.cat_replies.specs.Line.{joined, line}
 
 -- a reply of fixed words
 abbrev pub said : List ℕ → List ℕ
@@ -98,12 +98,12 @@ cut_by_counter events counter = line (codes "cut " ∷ decimal events ∷ codes 
 
 -- whether the catalogue is quiet
 abbrev pub quiet : Bool → List ℕ
-quiet true = said (codes "yes")
-quiet false = said (codes "no")
+quiet true = codes "yes"
+quiet false = codes "no"
 
 -- how many records, orphans, due records, live leases and marks there are
 abbrev pub counted : StateCounts → List ℕ
-counted n = line (
+counted n = joined (
     codes "state records " ∷ decimal n.records
     ∷ codes " orphans " ∷ decimal n.orphans
     ∷ codes " due " ∷ decimal n.due

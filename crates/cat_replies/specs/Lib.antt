@@ -5,3 +5,4 @@ pub mod Places
 pub mod Shown
 pub mod Lists
 pub mod Faults
+pub mod Asks

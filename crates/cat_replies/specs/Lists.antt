@@ -1,8 +1,7 @@
--- The replies that list what the catalogue has, as JSON.
+-- The answers that list what the catalogue has, as JSON.
 use Rattle.std.specs.Prelude.{ℕ, Bool, List, [], ◌∷◌, ◌++◌, map, codes}
 use Rattle.std.specs.List.{filter, list_any}
 use Rattle.cat_tree.specs.Data.{Data, words, list, dict, items_of, members_of}
-use Rattle.cat_tree.specs.Text.{text_of}
 use Rattle.cat_table.specs.Table.{Map}
 use Rattle.cat_stitch.specs.Issues.{items_of_issues}
 use Rattle.cat_model.specs.Catalogue.{Ref}
@@ -13,15 +12,6 @@ use Rattle.cat_model.specs.declared.types.Record.{Record}
 use Rattle.cat_model.specs.declared.types.Row.{Row}
 use Rattle.cat_model.specs.declared.types.State.{State}
 use Rattle.cat_model.specs.Reply.{Conflict, conflicts, is_error}
-use Rattle.cat_replies.specs.Line.{line}
-
--- the compact text of a tree, and LF
-abbrev pub shown : Data → List ℕ
-shown tree = line (text_of tree ∷ [])
-
--- the documents in order of reference
-abbrev pub documents_listed : Map Data → Data
-documents_listed documents = list (items_of (map (λ e. e.1) documents))
 
 -- the references of the orphans in order
 abbrev pub orphans_listed : Map Orphan → Data

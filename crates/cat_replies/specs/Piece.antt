@@ -1,4 +1,4 @@
--- The pieces of a line.
+-- The pieces of a line or text.
 use Rattle.std.specs.Prelude.{ℕ, ◌+◌, List, [], ◌∷◌, length}
 use Rattle.std.specs.Fmt.{decimal}
 use Rattle.cat_replies.specs.declared.line.Piece.{Piece}
@@ -14,7 +14,7 @@ abbrev pub piece_most : Piece → ℕ
 piece_most (Text text) = length text.now
 piece_most (Number number) = 20
 
--- the most bytes that a line of pieces takes
-abbrev pub most : List Piece → ℕ
-most [] = 1
-most (piece ∷ pieces) = piece_most piece + most pieces
+-- the most bytes that pieces and an end of this length take
+abbrev pub most : ℕ → List Piece → ℕ
+most end [] = end
+most end (piece ∷ pieces) = piece_most piece + most end pieces

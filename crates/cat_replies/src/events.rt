@@ -1,10 +1,10 @@
-//! Replies to events and to the short questions. A reply to an event never wants memory where room for 128 bytes, and for
+//! Replies to events, and the answers that are no lists. A reply to an event never wants memory where room for 128 bytes, and for
 //! the reference that it shows, was taken before.
 ghost use Rattle.std.specs.Prelude.{◌≡◌, ◌+◌, ◌≤◌, IsOk, length, vec_len, vec_capacity};
 ghost use Rattle.cat_replies.specs.Line.{Appends};
 ghost use Rattle.cat_replies.specs.Events as spec;
 
-use crate::line::{Piece, push_line};
+use crate::line::{Piece, push_line, push_text};
 use cat_model::types::{Acted, Counter, Counts, Fault, Finished, Placed, StateCounts};
 use cat_ref::reference::Ref;
 use std::alloc::AllocError;
@@ -214,22 +214,24 @@ pub fn push_cut_by_counter(
     )
 }
 
-/// Appends whether the catalogue is quiet.
+/// Appends whether the catalogue is quiet, without LF.
 pub fn push_quiet(out: &mut Vec<u8>, is_quiet: bool) -> Result<(), AllocError>
-    ensures { Appends out.old out.new result (spec.quiet is_quiet) }
+    ensures appends { Appends out.old out.new result (spec.quiet is_quiet) }
+    ensures short { vec_len out.old + 128 ≤ vec_capacity out.old → IsOk result }
 {
     if is_quiet {
-        say(out, "yes")
+        push_text(out, &[Piece::Text("yes")])
     } else {
-        say(out, "no")
+        push_text(out, &[Piece::Text("no")])
     }
 }
 
-/// Appends how many records, orphans, due records, live leases and marks there are.
+/// Appends how many records, orphans, due records, live leases and marks there are, without LF.
 pub fn push_counts(out: &mut Vec<u8>, counts: StateCounts) -> Result<(), AllocError>
-    ensures { Appends out.old out.new result (spec.counted counts) }
+    ensures appends { Appends out.old out.new result (spec.counted counts) }
+    ensures short { vec_len out.old + 256 ≤ vec_capacity out.old → IsOk result }
 {
-    push_line(
+    push_text(
         out,
         &[
             Piece::Text("state records "),

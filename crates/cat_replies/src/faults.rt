@@ -1,4 +1,4 @@
-//! Replies to lines that are no commands.
+//! Replies to lines that are no commands, and to questions that have no answer.
 ghost use Rattle.std.specs.Prelude.{◌≡◌};
 ghost use Rattle.cat_replies.specs.Faults as spec;
 ghost use Rattle.cat_replies.specs.Line.{Appends};
@@ -6,6 +6,7 @@ ghost use Rattle.cat_replies.specs.Line.{Appends};
 use crate::events::push_no_memory;
 use crate::line::{Piece, push_line};
 use cat_inputs::fault::InputFault;
+use cat_query::fault::QueryFault;
 use cat_tree::read::TreeFault;
 use std::alloc::AllocError;
 
@@ -72,4 +73,39 @@ pub fn push_no_mutation(out: &mut Vec<u8>, fault: InputFault) -> Result<(), Allo
         InputFault::Duplicate(place) => push_at(out, "refused duplicate ", place),
         InputFault::NoMemory => push_no_memory(out),
     }
+}
+
+/// Appends that a text of a list names no entity, with its place.
+pub fn push_no_reference(out: &mut Vec<u8>, place: usize) -> Result<(), AllocError>
+    ensures { Appends out.old out.new result (spec.no_reference place) }
+{
+    push_at(out, "refused reference ", place)
+}
+
+/// Appends why a text is no query, as `refused filter 0 1`.
+pub fn push_no_query(out: &mut Vec<u8>, fault: QueryFault) -> Result<(), AllocError>
+    ensures { Appends out.old out.new result (spec.no_query fault) }
+{
+    match fault {
+        QueryFault::Filter(filter, condition) => push_line(
+            out,
+            &[
+                Piece::Text("refused filter "),
+                Piece::Number(filter as u64),
+                Piece::Text(" "),
+                Piece::Number(condition as u64),
+            ],
+        ),
+        QueryFault::BadOrder => push_line(out, &[Piece::Text("refused order")]),
+        QueryFault::BadLimit => push_line(out, &[Piece::Text("refused limit")]),
+        QueryFault::BadCursor => push_line(out, &[Piece::Text("refused cursor")]),
+        QueryFault::NoMemory => push_no_memory(out),
+    }
+}
+
+/// Appends that a query asks for facets and names none.
+pub fn push_no_facet(out: &mut Vec<u8>) -> Result<(), AllocError>
+    ensures { Appends out.old out.new result spec.no_facet }
+{
+    push_line(out, &[Piece::Text("refused facet")])
 }

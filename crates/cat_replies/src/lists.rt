@@ -1,103 +1,71 @@
-//! Replies that list what the catalogue has, as JSON.
+//! Answers that list what the catalogue has, as JSON, without LF.
 ghost use Rattle.std.specs.Prelude.{◌≡◌, ◌++◌, ◌∷◌, [], IfOk, OnOk, OnErr, map, string_bytes};
 ghost use Rattle.std.specs.List.{list_any};
 ghost use Rattle.cat_model.specs.Reply.{is_error};
+ghost use Rattle.cat_tree.specs.Text.{text_of};
 ghost use Rattle.cat_tree.specs.View.{data_of};
 ghost use Rattle.cat_replies.specs.Lists as spec;
 ghost use Rattle.cat_replies.specs.Shown as seen;
 
 use crate::conflicts::{Conflict, conflicts};
-use crate::line::push_line;
 use cat_model::types::{Origin, Orphan, Record, Row, State};
 use cat_ref::reference::Ref;
 use cat_stitch::issues::issue_items;
 use cat_stitch::make::{empty_map, with_words, words};
-use cat_tree::clone::copy;
 use cat_tree::edit::with_key;
 use cat_tree::tree::{Tree, Trees};
 use cat_tree::write::write;
 use cat_types::issue::{Issue, Level};
-use cat_types::node::Node;
 use cat_types::table::Table;
 use std::alloc::{AllocError, Global};
 
-/// Appends the compact text of a tree, and LF. Where memory is wanted, nothing is appended.
-pub fn push_tree(alloc: Global, out: &mut Vec<u8>, tree: &Tree) -> Result<(), AllocError>
-    ensures ok { OnOk result (out.new.items ≡ out.old.items ++ spec.shown (data_of tree.now)) }
+/// Appends a document.
+pub fn push_document(alloc: Global, out: &mut Vec<u8>, document: &Tree) -> Result<(), AllocError>
+    ensures ok { OnOk result (out.new.items ≡ out.old.items ++ text_of (data_of document.now)) }
     ensures err { OnErr result (out.new.items ≡ out.old.items) }
 {
-    let start = out.len();
-    write(alloc, tree, out)?;
-    let ended = push_line(out, &[]);
-    if ended.is_err() {
-        out.truncate(start);
-    }
-    ended
+    write(alloc, document, out)
 }
 
-/// Appends the list of the documents, in order of reference, and LF. Each document is copied on the way.
-pub fn push_documents(
-    alloc: Global,
-    out: &mut Vec<u8>,
-    documents: &Table<Ref, Node>,
-) -> Result<(), AllocError>
-    ensures ok { OnOk result (out.new.items
-        ≡ out.old.items ++ spec.shown (spec.documents_listed documents.now)) }
-    ensures err { OnErr result (out.new.items ≡ out.old.items) }
-{
-    let tree = documents_listed(alloc, documents.as_slice())?;
-    push_tree(alloc, out, &tree)
-}
-
-/// Appends the list of the orphans' references, in order, and LF.
+/// Appends the list of the orphans' references, in order.
 pub fn push_orphans(
     alloc: Global,
     out: &mut Vec<u8>,
     orphans: &Table<Ref, Orphan>,
 ) -> Result<(), AllocError>
     ensures ok { OnOk result (out.new.items
-        ≡ out.old.items ++ spec.shown (spec.orphans_listed orphans.now)) }
+        ≡ out.old.items ++ text_of (spec.orphans_listed orphans.now)) }
     ensures err { OnErr result (out.new.items ≡ out.old.items) }
 {
     let tree = orphans_listed(alloc, orphans.as_slice())?;
-    push_tree(alloc, out, &tree)
+    write(alloc, &tree, out)
 }
 
 /// Appends the list of the records that have an issue of level error, in order of reference, each with all its status
-/// items, and LF.
+/// items.
 pub fn push_failures(
     alloc: Global,
     out: &mut Vec<u8>,
     records: &Table<Ref, Record>,
 ) -> Result<(), AllocError>
     ensures ok { OnOk result (out.new.items
-        ≡ out.old.items ++ spec.shown (spec.failures_listed records.now)) }
+        ≡ out.old.items ++ text_of (spec.failures_listed records.now)) }
     ensures err { OnErr result (out.new.items ≡ out.old.items) }
 {
     let tree = failures_listed(alloc, records.as_slice())?;
-    push_tree(alloc, out, &tree)
+    write(alloc, &tree, out)
 }
 
-/// Appends the list of the conflicts, by reference and arrival, and LF. A conflict is a row that waits with another key
+/// Appends the list of the conflicts, by reference and arrival. A conflict is a row that waits with another key
 /// than the row that holds its reference.
 pub fn push_conflicts(alloc: Global, out: &mut Vec<u8>, state: &State) -> Result<(), AllocError>
     ensures ok { OnOk result (out.new.items
-        ≡ out.old.items ++ spec.shown (spec.conflicts_listed state.now)) }
+        ≡ out.old.items ++ text_of (spec.conflicts_listed state.now)) }
     ensures err { OnErr result (out.new.items ≡ out.old.items) }
 {
     let found = conflicts(alloc, state)?;
     let tree = conflicts_shown(alloc, found.as_slice())?;
-    push_tree(alloc, out, &tree)
-}
-
-fn documents_listed(alloc: Global, documents: &[(Ref, Node)]) -> Result<Tree, AllocError>
-    ensures { IfOk result (λ t. data_of t ≡ spec.documents_listed documents.now) }
-{
-    let mut trees = Vec::with_capacity(alloc, documents.len())?;
-    for (_, document) in documents {
-        trees.push(copy(alloc, document.tree())?)?;
-    }
-    Ok(Tree::List(Trees::from_vec(trees)))
+    write(alloc, &tree, out)
 }
 
 fn orphans_listed(alloc: Global, orphans: &[(Ref, Orphan)]) -> Result<Tree, AllocError>

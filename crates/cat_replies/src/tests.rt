@@ -2,8 +2,10 @@ use crate::events::{
     push_acted, push_changed, push_finished, push_no_memory, push_nothing, push_order, push_placed,
     push_refused, push_ticket, push_unknown,
 };
+use crate::faults::{push_no_facet, push_no_query, push_no_reference};
 use crate::lists::push_failures;
 use cat_model::types::{Acted, Counter, Fault, Finished, Placed, Record};
+use cat_query::fault::QueryFault;
 use cat_ref::reference::{Ref, parse};
 use cat_table::listing::Listing;
 use cat_tree::text::Text;
@@ -50,10 +52,15 @@ fn says_why_events_are_refused(rt: HostRuntime) -> Result<(), Fail> {
     push_refused(&mut out, Fault::Spent(Counter::Number))?;
     push_refused(&mut out, Fault::Spent(Counter::Token))?;
     push_refused(&mut out, Fault::Spent(Counter::Ticket))?;
+    push_no_reference(&mut out, 2)?;
+    push_no_query(&mut out, QueryFault::Filter(0, 1))?;
+    push_no_query(&mut out, QueryFault::BadCursor)?;
+    push_no_facet(&mut out)?;
     push_unknown(&mut out)?;
     push_no_memory(&mut out)?;
     let wanted = "refused old 5\nrefused not_found\nrefused too_large 16\nrefused spent arrival\n\
-refused spent number\nrefused spent token\nrefused spent ticket\nrefused unknown\nno memory\n";
+refused spent number\nrefused spent token\nrefused spent ticket\nrefused reference 2\n\
+refused filter 0 1\nrefused cursor\nrefused facet\nrefused unknown\nno memory\n";
     assert_eq!(rt; out.as_slice(), wanted.as_bytes());
     Ok(())
 }
@@ -90,7 +97,7 @@ fn lists_failures(rt: HostRuntime) -> Result<(), Fail> {
     )?;
     push_failures(alloc, &mut out, &records)?;
     let wanted =
-        "[]\n[{\"entityRef\":\"component:default/web\",\"items\":[{\"error\":{\"message\":\"NoKind spec.dependsOn.0\",\"name\":\"ReferenceFault\"},\"level\":\"error\",\"message\":\"NoKind spec.dependsOn.0\",\"type\":\"backstage.io/catalog-processing\"}]}]\n";
+        "[][{\"entityRef\":\"component:default/web\",\"items\":[{\"error\":{\"message\":\"NoKind spec.dependsOn.0\",\"name\":\"ReferenceFault\"},\"level\":\"error\",\"message\":\"NoKind spec.dependsOn.0\",\"type\":\"backstage.io/catalog-processing\"}]}]";
     assert_eq!(rt; out.as_slice(), wanted.as_bytes());
     Ok(())
 }

@@ -55,18 +55,22 @@ same_list same [] (y ∷ ys) = false
 same_list same (x ∷ xs) [] = false
 same_list same (x ∷ xs) (y ∷ ys) = same x y && same_list same xs ys
 
+-- both are absent, or both are there and equal
 abbrev pub same_option_text : Option Text → Option Text → Bool
 same_option_text None None = true
 same_option_text None (Some y) = false
 same_option_text (Some x) None = false
 same_option_text (Some x) (Some y) = same_text x y
 
+-- name and text are equal
 abbrev pub same_content : Content → Content → Bool
 same_content x y = same_text x.name y.name && same_option_text x.body y.body
 
+-- source, kind and target are equal
 abbrev pub same_relation : Relation → Relation → Bool
 same_relation x y = (same_text x.source y.source && nat_eq (kind_rank x.kind) (kind_rank y.kind)) && same_text x.target y.target
 
+-- level, name and message are equal
 abbrev pub same_issue : Issue → Issue → Bool
 same_issue x y = (nat_eq (level_rank x.level) (level_rank y.level) && nat_eq (name_rank x.name) (name_rank y.name)) && same_text x.message y.message
 

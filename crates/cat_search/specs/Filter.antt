@@ -1,6 +1,6 @@
 -- How a filter is read, and which documents it accepts.
-use Rattle.std.specs.Prelude.{ℕ, suc, ◌==◌, nat_lt, List, [], ◌∷◌, ◌++◌, length, Bool, ◌&&◌, Option, Some, None, Result, Ok, Err, reverse, if◌then◌else◌}
-use Rattle.std.specs.List.{list_any, list_all, slice_split, position_or_len, before_first, after_first}
+use Rattle.std.specs.Prelude.{ℕ, suc, ◌==◌, nat_lt, List, [], ◌∷◌, ◌++◌, length, Bool, ◌&&◌, ◌||◌, Option, Some, None, Result, Ok, Err, reverse, if◌then◌else◌}
+use Rattle.std.specs.List.{filter, list_any, list_all, slice_split, position_or_len, before_first, after_first}
 use Rattle.cat_tree.specs.Data.{Data}
 use Rattle.cat_search.specs.Rows.{Row, same_text, has_row, document_rows}
 use Rattle.cat_search.specs.declared.condition.Condition.{Condition}
@@ -76,3 +76,11 @@ accepts cs rs = list_all (λ c. key_holds rs cs c.key) cs
 -- the filter accepts the document
 abbrev pub is_match : List Condition → Data → Bool
 is_match cs d = accepts cs (document_rows d)
+
+-- one of the filters accepts the document; without a filter all documents match
+abbrev pub is_accepted : List (List Condition) → Data → Bool
+is_accepted fs d = length fs == 0 || list_any (λ cs. is_match cs d) fs
+
+-- the documents that one of the filters accepts, with their references
+abbrev pub matching : List (List Condition) → List (List ℕ × Data) → List (List ℕ × Data)
+matching fs ps = filter (λ p. is_accepted fs p.1) ps

@@ -1,3 +1,5 @@
 pub mod Rows
 pub mod Filter
 pub mod Walk
+pub mod Terms
+pub mod Index

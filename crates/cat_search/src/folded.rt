@@ -1,10 +1,22 @@
-//! Texts compared in lower case, in ASCII alone. Nothing here takes memory.
-ghost use Rattle.std.specs.Prelude.{◌≡◌, ◌^◌, ◌<◌, ◌++◌, ◌∷◌, length, codes};
+//! Texts in lower case, in ASCII alone.
+ghost use Rattle.std.specs.Prelude.{◌≡◌, ◌^◌, ◌<◌, ◌++◌, ◌∷◌, length, codes, IfOk};
 ghost use Rattle.std.specs.Option.{option_copied};
-ghost use Rattle.cat_search.specs.Rows.{same_text, step};
+ghost use Rattle.cat_search.specs.Rows.{folded, same_text, step};
 ghost use Rattle.cat_search.specs.Walk.{left_of};
 
-/// Whether the texts are the same in lower case.
+use cat_tree::text::Text;
+use std::alloc::{AllocError, Global};
+
+/// The text in lower case.
+pub fn lower(alloc: Global, text: &str) -> Result<Text, AllocError>
+    ensures { IfOk result (λ t. t ≡ folded text.now) }
+{
+    let mut copy = String::from_str(alloc, text)?;
+    copy.make_ascii_lowercase();
+    Ok(Text::from_string(copy))
+}
+
+/// Whether the texts are the same in lower case. Takes no memory.
 pub fn same_text(left: &[u8], right: &[u8]) -> bool
     ensures { result ≡ same_text left.now right.now }
 {

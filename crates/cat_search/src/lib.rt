@@ -1,21 +1,28 @@
-//! Filters over documents, after the query parameters of the Backstage catalogue's API.
+//! Filters over documents, after the query parameters of the Backstage catalogue's API, and an index of documents.
 //!
 //! A document is seen as search rows, each a path through it with a value. A filter asks for rows:
 //! conditions with one key are alternatives, and each key must hold. Letters are compared in lower
 //! case, in ASCII alone. The rows stand in `specs/Rows.antt`, the reading of a filter and what it
 //! accepts in `specs/Filter.antt`.
 //!
-//! The promise: a filter is read as its text says, a refusal names the first condition without a key,
-//! and `matches` answers exactly whether a document's rows meet the filter, without memory. It stands
-//! on cat_tree and cat_ref.
+//! The index keeps documents by reference, and lists each reference under the terms of its document: the key of each row,
+//! and the key with the value, in lower case (`specs/Terms.antt`). So what a filter finds is a matter of unions and
+//! intersections of lists (`specs/Index.antt`), and no document is looked into. Its copies share what they have in common.
+//!
+//! The promise: a filter is read as its text says, a refusal names the first condition without a key, `matches` answers
+//! exactly whether a document's rows meet the filter, without memory, and the index finds just the documents that `matches`
+//! accepts. It stands on cat_types and on the shared maps of cat_table.
 #![tactic(auto)]
 
 pub mod condition;
 pub mod document;
 pub mod folded;
+pub mod index;
 pub mod matches;
 pub mod pieces;
 pub mod read;
+pub mod sets;
+pub mod terms;
 #[cfg(test)]
 mod tests;
 pub mod values;

@@ -1,7 +1,8 @@
 //! Which documents a filter accepts.
 ghost use Rattle.std.specs.Prelude.{◌≡◌, option_map};
+ghost use Rattle.std.specs.List.{list_any};
 ghost use Rattle.cat_tree.specs.View.{data_of};
-ghost use Rattle.cat_search.specs.Filter.{holds, key_holds, is_match};
+ghost use Rattle.cat_search.specs.Filter.{holds, key_holds, is_accepted, is_match};
 ghost use Rattle.cat_search.specs.Rows.{document_rows, same_text};
 
 use crate::condition::{Condition, Filter};
@@ -41,4 +42,17 @@ pub fn matches(filter: &Filter, document: &Tree) -> bool
     conditions
         .iter()
         .all(|condition| key_holds(conditions, condition, document))
+}
+
+fn is_any_match(filters: &[Filter], document: &Tree) -> bool
+    ensures { result ≡ list_any (λ cs. is_match cs (data_of document.now)) filters.now }
+{
+    filters.iter().any(|filter| matches(filter, document))
+}
+
+/// Whether one of the filters accepts the document; without a filter all documents match. Takes no memory.
+pub fn is_accepted(filters: &[Filter], document: &Tree) -> bool
+    ensures { result ≡ is_accepted filters.now (data_of document.now) }
+{
+    filters.is_empty() || is_any_match(filters, document)
 }

@@ -1,8 +1,12 @@
 //! Worked filters over documents.
 use crate::condition::{Filter, FilterFault};
+use crate::index::Index;
 use crate::matches::matches;
 use crate::read::read_filter;
+use cat_ref::reference::parse;
 use cat_tree::read::read;
+use cat_types::node::Node;
+use std::alloc::Global;
 use std::test::Fail;
 
 const WEB: &[u8] =
@@ -66,4 +70,65 @@ fn refuses(rt: HostRuntime) {
     for (text, wanted) in cases.iter() {
         assert_eq!(rt; fault_of(read_filter(rt.alloc(), text)), *wanted, "{text}");
     }
+}
+
+fn put(alloc: Global, index: &mut Index, name: &str, body: &[u8]) -> Result<(), Fail> {
+    let reference = parse(alloc, name, Some("component"), "default")?;
+    let document = Node::new(alloc, read(alloc, body)?)?;
+    index.put(alloc, &reference, &document)?;
+    Ok(())
+}
+
+// The names that are found, one after the other.
+fn found(alloc: Global, index: &Index, texts: &[&str]) -> Result<String, Fail> {
+    let mut filters = Vec::new(alloc);
+    for text in texts {
+        filters.push(read_filter(alloc, text)?)?;
+    }
+    let mut names = String::new(alloc);
+    for reference in index.find(alloc, filters.as_slice())?.as_slice() {
+        names.push_str(reference.parts().name)?;
+    }
+    Ok(names)
+}
+
+#[test]
+fn finds(rt: HostRuntime) -> Result<(), Fail> {
+    let alloc = rt.alloc();
+    let mut index = Index::empty();
+    put(
+        alloc,
+        &mut index,
+        "c",
+        b"{\"kind\":\"Component\",\"spec\":{\"type\":\"X\"}}",
+    )?;
+    put(
+        alloc,
+        &mut index,
+        "b",
+        b"{\"kind\":\"API\",\"spec\":{\"type\":\"y\"}}",
+    )?;
+    put(alloc, &mut index, "a", WEB)?;
+    put(alloc, &mut index, "d", WEB)?;
+    put(alloc, &mut index, "d", b"{\"kind\":\"component\"}")?;
+    let cases: [(&[&str], &str); 9] = [
+        (&[], "abcd"),
+        (&["kind=x", ""], "abcd"),
+        (&["KIND=component"], "acd"),
+        (&["kind=component,spec.type"], "ac"),
+        (&["spec.type=x,kind,spec.type=Y"], "bc"),
+        (&["spec.type=x,kind=api"], ""),
+        (&["spec.type=x", "kind=api"], "bc"),
+        (
+            &["metadata.tags.java,relations.ownedBy=group:default/team-a"],
+            "a",
+        ),
+        (&["status.items"], ""),
+    ];
+    for (texts, wanted) in cases.iter() {
+        assert_eq!(rt; found(alloc, &index, texts)?.as_str(), *wanted);
+    }
+    index.remove(alloc, &parse(alloc, "component:c", None, "default")?)?;
+    assert_eq!(rt; found(alloc, &index, &["kind=component"])?.as_str(), "ad");
+    Ok(())
 }

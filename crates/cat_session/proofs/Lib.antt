@@ -1,4 +1,3 @@
-pub mod Asked
+pub mod Said
+pub mod Takes
 pub mod Lines
-pub mod Refusals
-mod Takes

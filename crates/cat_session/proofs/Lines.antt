@@ -1,68 +1,131 @@
--- A line that is an event of the catalogue.
-use Rattle.std.proofs.Common.{◌≡◌, ℕ, List, sym, ap, ◌∙◌, subst}
-use Rattle.std.specs.declared.option.Option.TheVariants.{Some}
+-- A line that is a command of the desk.
+use Rattle.std.proofs.Common.{◌≡◌, ℕ, List, refl, sym, ap, ◌∙◌, subst}
+use Rattle.std.specs.declared.option.Option.{Option}
+use Rattle.std.specs.declared.option.Option.TheVariants.{None, Some}
 use Rattle.std.specs.Ordering.{nat_cmp}
 use Rattle.cat_table.specs.Table.{Text, find}
 use Rattle.cat_types.specs.declared.input.Mutation.{Mutation}
+use Rattle.cat_commands.specs.declared.line.Line.{Line}
+use Rattle.cat_commands.specs.declared.line.Line.TheVariants as asks
+use Rattle.cat_core.specs.Answer.{stop_answer}
 use Rattle.cat_core.specs.declared.ledger.Ledger.{Ledger}
-use Rattle.cat_line.specs.declared.line.Line.TheVariants as asks
-use Rattle.cat_lines.specs.Word.{plain}
+use Rattle.cat_desk.specs.Acts as desk
+use Rattle.cat_desk.specs.Deed.{Deed}
+use Rattle.cat_desk.specs.Deed.Deed.{Mutate, ShelfPut, ShelfDrop, Refresh, Forget, Take, Finish, PutStitch, Settle}
+use Rattle.cat_desk.specs.declared.command.Reply.{Reply}
+use Rattle.cat_desk.specs.declared.command.Reply.TheVariants as replies
+use Rattle.cat_loop.specs.Word.{Word, IsActing, plain, memory, cut}
 use Rattle.cat_model.specs.Catalogue.{Rules}
 use Rattle.cat_model.specs.Given.{given}
-use Rattle.cat_model.specs.Reply as model
-use Rattle.cat_model.specs.Step.{Event, refusal, step}
-use Rattle.cat_model.specs.Step.Event.{Finish, Forget, Mutate, PutStitch, Refresh, ShelfDrop, Take}
+use Rattle.cat_model.specs.Reply.{acted, finished, placed, taken}
+use Rattle.cat_model.specs.Settle.{try_settle}
+use Rattle.cat_model.specs.Step.{refusal}
+use Rattle.cat_model.specs.Step.Event.{Mutate as Mutated, ShelfPut as PutOnShelf, ShelfDrop as DroppedFromShelf, Refresh as Refreshed, Forget as Forgotten, Take as Taken, Finish as Finished, PutStitch as StitchPut}
+use Rattle.cat_model.specs.declared.types.Fault.{Fault}
+use Rattle.cat_model.specs.declared.types.Fault.TheVariants as model
 use Rattle.cat_model.specs.declared.types.Order.{Order}
+use Rattle.cat_model.specs.declared.types.Progress.{Progress}
 use Rattle.cat_model.specs.declared.types.State.{State}
 use Rattle.cat_model.specs.declared.types.StitchOrder.{StitchOrder}
-use Rattle.cat_replies.specs.Events as say
-use Rattle.cat_session.specs.Carried.{Carries, CarriesEvent, CarriesTake}
+use Rattle.cat_model.specs.declared.types.Stop.{Stop}
+use Rattle.cat_model.specs.declared.types.Stop.TheVariants.{Refused as StopRefused, Limit}
+use Rattle.cat_query.specs.declared.ask.Ask.{Ask}
+use Rattle.cat_session.specs.Carried.{Carries, CarriesDeed, order_taken}
+use Rattle.cat_session.specs.Replies.{reply_line}
 use Rattle.cat_transcript.specs.Program.{program_settings}
-use Rattle.cat_transcript.specs.Session.{add_order, after_event, after_finish, after_place, after_take, event_reply, finish_reply, or_refused, order_numbered, order_reply, place_reply, unless_refused}
+use Rattle.cat_transcript.specs.Session.{add_order, after_finish, after_place, after_reading, finish_reply, limit_of, or_refused, order_numbered, place_reply, reply_to, settle_reply, stop_reply, with_state}
 use Rattle.cat_transcript.specs.declared.state.SessionState.{SessionState}
 
 abbrev seen : State → ℕ → List Order → List (ℕ × StitchOrder) → SessionState
 seen state now orders stitches = record { state = state; now = now; orders = orders; stitches = stitches }
 
-module _ (rules : Rules) (now : ℕ) (orders : List Order) (stitches : List (ℕ × StitchOrder)) (lold lnew : Ledger) (text : List ℕ) (set : lold.settings ≡ program_settings) where
-  after_is : (e : Event) (reply : List ℕ) → CarriesEvent rules e reply lold lnew text → seen lnew.state now orders stitches ≡ after_event rules program_settings e (seen lold.state now orders stitches)
-  after_is e reply h = λ i. record { state = (h.state ∙ ap (λ s. step rules s e lold.state) set) i; now = now; orders = orders; stitches = stitches }
+-- ---- the lines of replies
 
-  says_is : (e : Event) (reply : List ℕ) → CarriesEvent rules e reply lold lnew text → text ≡ event_reply rules program_settings e (seen lold.state now orders stitches) reply
-  says_is e reply h = h.says ∙ ap (λ s. or_refused (refusal rules s e lold.state) reply) set
+refused_line : (r : Option Fault) (reply : Reply) → reply_line (desk.or_refused r reply) ≡ or_refused r (reply_line reply)
+refused_line None reply = refl
+refused_line (Some (model.OldSerial n)) reply = refl
+refused_line (Some model.NotFound) reply = refl
+refused_line (Some (model.TooLarge n)) reply = refl
+refused_line (Some (model.Spent c)) reply = refl
 
-  module _ (old : SessionState) (is : seen lold.state now orders stitches ≡ old) where
-    pub mutated : (p : Text) (x : Mutation) → CarriesEvent rules (Mutate p (given p x)) (say.acted (model.acted p (given p x) lold.state)) lold lnew text → Carries rules program_settings (asks.Mutate p x) old (seen lnew.state now orders stitches) text
-    mutated p x h = subst (λ v. Carries rules program_settings (asks.Mutate p x) v (seen lnew.state now orders stitches) text) is (plain, tt, after_is _ _ h, says_is _ _ h)
+stop_line : (p : Progress) (stop : Option Stop) → stop_reply p stop ≡ reply_line (desk.settled_as (stop_answer p stop))
+stop_line p None = refl
+stop_line p (Some (StopRefused (model.OldSerial n))) = refl
+stop_line p (Some (StopRefused model.NotFound)) = refl
+stop_line p (Some (StopRefused (model.TooLarge n))) = refl
+stop_line p (Some (StopRefused (model.Spent c))) = refl
+stop_line p (Some Limit) = refl
 
-    pub dropped : (name : Text) → CarriesEvent rules (ShelfDrop name) say.changed lold lnew text → Carries rules program_settings (asks.ShelfDrop name) old (seen lnew.state now orders stitches) text
-    dropped name h = subst (λ v. Carries rules program_settings (asks.ShelfDrop name) v (seen lnew.state now orders stitches) text) is (plain, tt, after_is _ _ h, says_is _ _ h)
+settle_line : (word : Word) → IsActing word → (p : Progress) → settle_reply word p ≡ reply_line (desk.settle_reply (limit_of word) p)
+settle_line plain acts p = stop_line p p.stop
+settle_line memory acts p = absurd acts
+settle_line (cut n) acts p = refl
 
-    pub forgotten : (r : Text) → CarriesEvent rules (Forget r) say.changed lold lnew text → Carries rules program_settings (asks.Forget r) old (seen lnew.state now orders stitches) text
-    forgotten r h = subst (λ v. Carries rules program_settings (asks.Forget r) v (seen lnew.state now orders stitches) text) is (plain, tt, after_is _ _ h, says_is _ _ h)
+-- ---- lines and deeds
 
-    pub placed : (ticket : ℕ) (x : StitchOrder) → find nat_cmp ticket stitches ≡ Some x → CarriesEvent rules (PutStitch x) (say.placed (model.placed rules x lold.state)) lold lnew text → Carries rules program_settings (asks.Place ticket) old (seen lnew.state now orders stitches) text
-    placed ticket x at h =
-        subst (λ v. Carries rules program_settings (asks.Place ticket) v (seen lnew.state now orders stitches) text) is
-        (plain, tt, after_is _ _ h ∙ sym (ap (λ o. after_place rules program_settings o (seen lold.state now orders stitches)) at), says_is _ _ h ∙ sym (ap (λ o. place_reply rules program_settings o (seen lold.state now orders stitches)) at))
+-- a line does what a deed does, and is answered by the line of its reply
+pub record Fits (rules : Rules) (now : ℕ) (orders : List Order) (stitches : List (ℕ × StitchOrder)) (state : State) (line : Line) (d : Deed) : Type 0 where
+  pub after : (word : Word) → IsActing word → after_reading rules program_settings word line (seen state now orders stitches) ≡ with_state (desk.done rules program_settings now (limit_of word) d state) (seen state now orders stitches)
+  pub says : (word : Word) → IsActing word → reply_to rules program_settings word line (seen state now orders stitches) ≡ reply_line (desk.answered rules program_settings now (limit_of word) d state)
 
-    pub refreshed : (r : Text) → CarriesEvent rules (Refresh r) say.changed lold lnew text → Carries rules program_settings (asks.Refresh r) old (seen lnew.state now orders stitches) text
-    refreshed r h = subst (λ v. Carries rules program_settings (asks.Refresh r) v (seen lnew.state now orders stitches) text) is (plain, tt, after_is _ _ h, says_is _ _ h)
+module _ (rules : Rules) (now : ℕ) (orders : List Order) (stitches : List (ℕ × StitchOrder)) (state : State) where
+  pub mutates : (p : Text) (x : Mutation) → Fits rules now orders stitches state (asks.Mutate p x) (Mutate p (given p x))
+  mutates p x = record { after = λ word acts. refl; says = λ word acts. sym (refused_line (refusal rules program_settings (Mutated p (given p x)) state) (replies.Mutated (acted p (given p x) state))) }
 
-    pub finished : (token : ℕ) (x : Order) → order_numbered token orders ≡ Some x → CarriesEvent rules (Finish x now) (say.finished (model.finished rules x lold.state)) lold lnew text → Carries rules program_settings (asks.Finish token) old (seen lnew.state now orders stitches) text
-    finished token x at h =
-        subst (λ v. Carries rules program_settings (asks.Finish token) v (seen lnew.state now orders stitches) text) is
-        (plain, tt, after_is _ _ h ∙ sym (ap (λ o. after_finish rules program_settings o (seen lold.state now orders stitches)) at), says_is _ _ h ∙ sym (ap (λ o. finish_reply rules program_settings o (seen lold.state now orders stitches)) at))
+  pub puts : (name text : Text) → Fits rules now orders stitches state (asks.ShelfPut name text) (ShelfPut name text)
+  puts name text = record { after = λ word acts. refl; says = λ word acts. sym (refused_line (refusal rules program_settings (PutOnShelf name text) state) replies.Changed) }
 
-    after_take_is : (orders' : List Order) → CarriesTake rules now lold lnew orders orders' text → seen lnew.state now orders' stitches ≡ after_take rules program_settings (seen lold.state now orders stitches)
-    after_take_is orders' h = λ i. record {
-      state = (h.state ∙ ap (λ s. step rules s (Take now) lold.state) set) i;
-      now = now;
-      orders = (h.kept ∙ ap (λ s. add_order (unless_refused (refusal rules s (Take now) lold.state) (model.taken rules s now lold.state)) orders) set) i;
-      stitches = stitches;
-    }
+  pub drops : (name : Text) → Fits rules now orders stitches state (asks.ShelfDrop name) (ShelfDrop name)
+  drops name = record { after = λ word acts. refl; says = λ word acts. sym (refused_line (refusal rules program_settings (DroppedFromShelf name) state) replies.Changed) }
 
-    pub taken : (orders' : List Order) → CarriesTake rules now lold lnew orders orders' text → Carries rules program_settings asks.Take old (seen lnew.state now orders' stitches) text
-    taken orders' h =
-        subst (λ v. Carries rules program_settings asks.Take v (seen lnew.state now orders' stitches) text) is
-        (plain, tt, after_take_is orders' h, h.says ∙ ap (λ s. or_refused (refusal rules s (Take now) lold.state) (order_reply (model.taken rules s now lold.state))) set)
+  pub refreshes : (r : Text) → Fits rules now orders stitches state (asks.Refresh r) (Refresh r)
+  refreshes r = record { after = λ word acts. refl; says = λ word acts. sym (refused_line (refusal rules program_settings (Refreshed r) state) replies.Changed) }
+
+  pub forgets : (r : Text) → Fits rules now orders stitches state (asks.Forget r) (Forget r)
+  forgets r = record { after = λ word acts. refl; says = λ word acts. sym (refused_line (refusal rules program_settings (Forgotten r) state) replies.Changed) }
+
+  pub settles : Fits rules now orders stitches state asks.Settle Settle
+  settles = record { after = λ word acts. refl; says = λ word acts. settle_line word acts (try_settle rules program_settings now (limit_of word) state) }
+
+  pub finishes : (token : ℕ) (x : Order) → order_numbered token orders ≡ Some x → Fits rules now orders stitches state (asks.Finish token) (Finish x)
+  finishes token x at = record {
+    after = λ word acts. ap (λ o. after_finish rules program_settings o (seen state now orders stitches)) at;
+    says = λ word acts. ap (λ o. finish_reply rules program_settings o (seen state now orders stitches)) at ∙ sym (refused_line (refusal rules program_settings (Finished x now) state) (replies.Finished (finished rules x state)));
+  }
+
+  pub places : (ticket : ℕ) (x : StitchOrder) → find nat_cmp ticket stitches ≡ Some x → Fits rules now orders stitches state (asks.Place ticket) (PutStitch x)
+  places ticket x at = record {
+    after = λ word acts. ap (λ o. after_place rules program_settings o (seen state now orders stitches)) at;
+    says = λ word acts. ap (λ o. place_reply rules program_settings o (seen state now orders stitches)) at ∙ sym (refused_line (refusal rules program_settings (StitchPut x) state) (replies.Placed (placed rules x state)));
+  }
+
+-- ---- what a session did
+
+module _ (rules : Rules) (old new : Ledger) (set : old.settings ≡ program_settings) (now now' : ℕ) (still : now' ≡ now) (orders : List Order) (stitches : List (ℕ × StitchOrder)) (m : SessionState) (is : seen old.state now orders stitches ≡ m) (text : List ℕ) where
+  -- a line that is a deed was carried out
+  pub carried : (line line' : Line) (d : Deed) → line' ≡ line → Fits rules now orders stitches old.state line d → CarriesDeed rules now d old new text → Carries rules program_settings line' m (seen new.state now' orders stitches) text
+  carried line line' d same fits h =
+      subst (λ v. Carries rules program_settings line' v (seen new.state now' orders stitches) text) is
+      (subst (λ l. Carries rules program_settings l (seen old.state now orders stitches) (seen new.state now' orders stitches) text) (sym same) (
+        h.word,
+        h.acts,
+        (λ i. seen ((h.state ∙ ap (λ s. desk.done rules s now (limit_of h.word) d old.state) set) i) (still i) orders stitches) ∙ sym (fits.after h.word h.acts),
+        h.says ∙ (ap (λ s. reply_line (desk.answered rules s now (limit_of h.word) d old.state)) set ∙ sym (fits.says h.word h.acts)),
+      ))
+
+  -- a take was carried out
+  pub took : (line' : Line) → line' ≡ asks.Take → CarriesDeed rules now Take old new text → (orders' : List Order) → orders' ≡ add_order (order_taken rules now old) orders
+      → Carries rules program_settings line' m (seen new.state now' orders' stitches) text
+  took line' same h orders' kept =
+      subst (λ v. Carries rules program_settings line' v (seen new.state now' orders' stitches) text) is
+      (subst (λ l. Carries rules program_settings l (seen old.state now orders stitches) (seen new.state now' orders' stitches) text) (sym same) (
+        h.word,
+        h.acts,
+        (λ i. seen ((h.state ∙ ap (λ s. desk.done rules s now (limit_of h.word) Take old.state) set) i) (still i) ((kept ∙ ap (λ s. add_order (order_taken rules now (record { settings = s; state = old.state })) orders) set) i) stitches),
+        h.says ∙ (ap (λ s. reply_line (desk.answered rules s now (limit_of h.word) Take old.state)) set ∙ refused_line (refusal rules program_settings (Taken now) old.state) (replies.Taken (taken rules program_settings now old.state))),
+      ))
+
+-- a line that is a question was answered
+pub asked : (rules : Rules) (old m new : SessionState) → old ≡ m → (text : List ℕ) (ask : Ask) (line : Line) → line ≡ asks.Ask ask → Carries rules program_settings (asks.Ask ask) old new text → Carries rules program_settings line m new text
+asked rules old m new is text ask line same h =
+    subst (λ v. Carries rules program_settings line v new text) is (subst (λ l. Carries rules program_settings l old new text) (sym same) h)

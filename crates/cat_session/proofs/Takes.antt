@@ -1,76 +1,79 @@
--- What a take answered, the order that is kept, and the reply to it.
-use Rattle.std.proofs.Common.{◌≡◌, ◌≤◌, ◌+◌, ℕ, List, length, sym, ap, ◌∙◌, subst, option_and_then, Ok, Err}
+-- What a take and a take of a stitch order hand out, and the room for their replies.
+use Rattle.std.proofs.Common.{◌≡◌, ◌≤◌, ℕ, List, length, arith, refl, sym, ap, ◌∙◌, subst, option_and_then}
 use Rattle.std.specs.declared.option.Option.{Option}
 use Rattle.std.specs.declared.option.Option.TheVariants.{None, Some}
 use Rattle.cat_table.specs.Table.{Text}
-use Rattle.cat_core.specs.declared.fault.CoreFault.{CoreFault}
-use Rattle.cat_core.specs.declared.fault.CoreFault.TheVariants as core
 use Rattle.cat_core.specs.declared.ledger.Ledger.{Ledger}
-use Rattle.cat_core.specs.Answer.{IsReply}
+use Rattle.cat_desk.specs.Acts.{Acts, deed_reply, or_refused}
+use Rattle.cat_desk.specs.Deed.Deed.{Take, TakeStitch}
+use Rattle.cat_desk.specs.declared.command.Reply.{Reply}
+use Rattle.cat_desk.specs.declared.command.Reply.TheVariants as replies
+use Rattle.cat_loop.specs.Word.{Word, plain, memory, cut}
 use Rattle.cat_model.specs.Catalogue.{Rules}
 use Rattle.cat_model.specs.Reply as model
 use Rattle.cat_model.specs.Settle.{order, order_with}
-use Rattle.cat_model.specs.Step.{change, next_taken, refusal, step}
-use Rattle.cat_model.specs.Step.Event.{Take}
+use Rattle.cat_model.specs.Step.{change, next_taken, refusal}
+use Rattle.cat_model.specs.Step.Event.{Take as Taken}
 use Rattle.cat_model.specs.declared.types.Fault.{Fault}
 use Rattle.cat_model.specs.declared.types.Lease.{Lease}
 use Rattle.cat_model.specs.declared.types.Order.{Order}
-use Rattle.cat_model.specs.declared.types.Settings.{Settings}
 use Rattle.cat_model.specs.declared.types.State.{State}
 use Rattle.cat_types.specs.declared.work.Work.{Work}
-use Rattle.cat_replies.specs.Events as say
-use Rattle.cat_session.specs.Carried.{CarriesTake, IsRefusal, shown_length}
-use Rattle.cat_session.proofs.Refusals.{stays}
-use Rattle.cat_transcript.specs.Session.{add_order, or_refused, order_reply, unless_refused}
+use Rattle.cat_session.specs.Carried.{order_taken}
+use Rattle.cat_session.specs.Replies.{IsSaid, order_in, order_length, order_shown, shown, stitch_in}
+use Rattle.cat_transcript.specs.Session.{add_order, unless_refused}
 
-module _ (rules : Rules) (now : ℕ) (old new : Ledger) (same : new.settings ≡ old.settings) (orders orders' : List Order) (text : List ℕ) where
-  pub took : (x : Option Order) → new.state ≡ step rules old.settings (Take now) old.state
-      → IsReply {T = Option Order} (Ok x) (refusal rules old.settings (Take now) old.state) (model.taken rules old.settings now old.state)
-      → orders' ≡ add_order x orders → text ≡ order_reply x → CarriesTake rules now old new orders orders' text
-  took x state reply kept says = record {
-    state = state;
-    settings = same;
-    kept = kept ∙ (ap (λ o. add_order o orders) reply.1 ∙ sym (ap (λ r. add_order (unless_refused r (model.taken rules old.settings now old.state)) orders) reply.0));
-    says = says ∙ (ap order_reply reply.1 ∙ sym (ap (λ r. or_refused r (order_reply (model.taken rules old.settings now old.state))) reply.0));
-  }
+-- ---- what is handed out
 
-  refusing : (f : Fault) → new.state ≡ old.state → refusal rules old.settings (Take now) old.state ≡ Some f → orders' ≡ orders → text ≡ say.refused f → CarriesTake rules now old new orders orders' text
-  refusing f unchanged h kept says = record {
-    state = unchanged ∙ stays rules (Take now) old new same f h;
-    settings = same;
-    kept = kept ∙ sym (ap (λ r. add_order (unless_refused r (model.taken rules old.settings now old.state)) orders) h);
-    says = says ∙ sym (ap (λ r. or_refused r (order_reply (model.taken rules old.settings now old.state))) h);
-  }
+order_of : (r : Option Fault) (o : Option Order) → order_in (or_refused r (replies.Taken o)) ≡ unless_refused r o
+order_of None o = refl
+order_of (Some f) o = refl
 
-  pub took_not : (fault : CoreFault) → new.state ≡ old.state
-      → IsReply {T = Option Order} (Err fault) (refusal rules old.settings (Take now) old.state) (model.taken rules old.settings now old.state)
-      → orders' ≡ orders → IsRefusal fault text → CarriesTake rules now old new orders orders' text
-  took_not (core.OldSerial n) unchanged h kept says = refusing _ unchanged h kept says
-  took_not core.NotFound unchanged h kept says = refusing _ unchanged h kept says
-  took_not (core.TooLarge n) unchanged h kept says = refusing _ unchanged h kept says
-  took_not (core.Spent c) unchanged h kept says = refusing _ unchanged h kept says
-  took_not core.NoMemory unchanged h kept says = absurd says
+module _ (rules : Rules) (now : ℕ) (old : Ledger) (reply : Reply) where
+  order_by : (word : Word) → reply ≡ deed_reply rules old.settings now word Take old.state → IsSaid reply
+      → order_in reply ≡ unless_refused (refusal rules old.settings (Taken now) old.state) (model.taken rules old.settings now old.state)
+  order_by plain answer h = ap order_in answer ∙ order_of (refusal rules old.settings (Taken now) old.state) (model.taken rules old.settings now old.state)
+  order_by memory answer h = absurd (subst IsSaid answer h)
+  order_by (cut n) answer h = ap order_in answer ∙ order_of (refusal rules old.settings (Taken now) old.state) (model.taken rules old.settings now old.state)
+
+  -- the order that the reply to a take gives
+  pub order_given : (new : Ledger) → Acts rules now Take old new reply → IsSaid reply → order_in reply ≡ order_taken rules now old
+  order_given new acts h = order_by acts.word acts.answer h
+
+  stitch_by : (after : ℕ) (word : Word) → reply ≡ deed_reply rules old.settings now word (TakeStitch after) old.state → IsSaid reply → stitch_in reply ≡ model.next_stitch rules old.state after
+  stitch_by after plain answer h = ap stitch_in answer
+  stitch_by after memory answer h = absurd (subst IsSaid answer h)
+  stitch_by after (cut n) answer h = ap stitch_in answer
+
+  -- the stitch order that the reply to a take of one gives
+  pub stitch_given : (after : ℕ) (new : Ledger) → Acts rules now (TakeStitch after) old new reply → IsSaid reply → stitch_in reply ≡ model.next_stitch rules old.state after
+  stitch_given after new acts h = stitch_by after acts.word acts.answer h
+
+-- the order is kept behind those that were kept before
+pub kept_order : (now then before : List Order) (o o' : Option Order) → now ≡ add_order o then → o ≡ o' → then ≡ before → now ≡ add_order o' before
+kept_order now then before o o' kept given same = kept ∙ (ap (λ x. add_order x then) given ∙ ap (add_order o') same)
 
 -- ---- the room for the reference of the order that a take gives
 
-abbrev reference_or : Text → Option Order → Text
-reference_or r None = r
-reference_or r (Some x) = x.reference
+with_fits : (r : Text) (l : Option Lease) (w : Option Work) → order_shown (order_with r l w) ≤ length r
+with_fits r None w = omega arith
+with_fits r (Some l) None = omega arith
+with_fits r (Some l) (Some w) = omega arith
 
-order_at : (r : Text) (l : Option Lease) (w : Option Work) (x : Order) → order_with r l w ≡ Some x → r ≡ x.reference
-order_at r None w x e = ap (reference_or r) e
-order_at r (Some l) None x e = ap (reference_or r) e
-order_at r (Some l) (Some w) x e = ap (reference_or r) e
+given_fits : (rules : Rules) (n : State) (q : Option Text) → order_shown (option_and_then (order rules n) q) ≤ order_length q
+given_fits rules n None = omega arith
+given_fits rules n (Some r) = with_fits r _ _
 
-abbrev IsNone : Option Order → Type 0
-IsNone None = Unit {0}
-IsNone (Some x) = ⊥
+event_fits : (r : Option Fault) (o : Option Order) (n : ℕ) → order_shown o ≤ n → shown (or_refused r (replies.Taken o)) ≤ n
+event_fits None o n h = h
+event_fits (Some f) o n h = omega arith
 
-named_at : (rules : Rules) (n : State) (q : Option Text) (x : Order) → option_and_then (order rules n) q ≡ Some x → shown_length q ≡ length x.reference
-named_at rules n None x e = absurd (subst IsNone e tt)
-named_at rules n (Some r) x e = ap length (order_at r _ _ x e)
+module _ (rules : Rules) (now : ℕ) (old : Ledger) (reply : Reply) where
+  fits_by : (word : Word) → reply ≡ deed_reply rules old.settings now word Take old.state → shown reply ≤ order_length (next_taken now old.state)
+  fits_by plain answer = subst (λ r. shown r ≤ order_length (next_taken now old.state)) (sym answer) (event_fits (refusal rules old.settings (Taken now) old.state) (model.taken rules old.settings now old.state) (order_length (next_taken now old.state)) (given_fits rules (change rules old.settings (Taken now) old.state) (next_taken now old.state)))
+  fits_by memory answer = subst (λ r. shown r ≤ order_length (next_taken now old.state)) (sym answer) (omega arith)
+  fits_by (cut n) answer = subst (λ r. shown r ≤ order_length (next_taken now old.state)) (sym answer) (event_fits (refusal rules old.settings (Taken now) old.state) (model.taken rules old.settings now old.state) (order_length (next_taken now old.state)) (given_fits rules (change rules old.settings (Taken now) old.state) (next_taken now old.state)))
 
-pub room_enough : (rules : Rules) (s : Settings) (now : ℕ) (m : State) (q : Option Text) (x : Order) (capacity : ℕ) → q ≡ next_taken now m → Some x ≡ model.taken rules s now m
-    → 128 + shown_length q ≤ capacity → 128 + length x.reference ≤ capacity
-room_enough rules s now m q x capacity is given room =
-    subst (λ n. 128 + n ≤ capacity) (ap shown_length is ∙ named_at rules (change rules s (Take now) m) (next_taken now m) x (sym given)) room
+  -- the reply to a take shows no longer reference than that of the record that is due first
+  pub take_fits : (new : Ledger) → Acts rules now Take old new reply → shown reply ≤ order_length (next_taken now old.state)
+  take_fits new acts = fits_by acts.word acts.answer

@@ -1,17 +1,13 @@
-//! Orders: those that takes give are kept, to be found again under their tokens.
-ghost use Rattle.std.specs.Prelude.{◌≡◌, ◌<◌, ◌≤◌, ◌+◌, ◌++◌, ◌∷◌, [], ◌^◌, IfOk, OnErr, length, option_map, vec_capacity, vec_len};
-ghost use Rattle.cat_replies.specs.Events as say;
-ghost use Rattle.cat_session.specs.Carried.{CarriesTake, Stays, shown_length};
-ghost use Rattle.cat_transcript.specs.Session.{order_numbered};
+//! Orders that were handed out.
+ghost use Rattle.std.specs.Prelude.{◌≡◌, ◌<◌, ◌≤◌, ◌+◌, [], IfOk, OnOk, OnErr, option_map, vec_capacity, vec_len};
+ghost use Rattle.cat_session.specs.Replies.{order_in, order_length, stitch_in, with_order};
+ghost use Rattle.cat_transcript.specs.Session.{add_order, order_numbered};
 
-use crate::acts::refused;
-use crate::room::ROOM;
-use cat_core::catalogue::Catalogue;
-use cat_core::extra::take_ref;
-use cat_hold::layers::Layers;
-use cat_model::types::Order;
+use crate::replies::ROOM;
+use cat_desk::command::Reply;
+use cat_model::types::{Order, StitchOrder};
 use cat_ref::reference::Ref;
-use cat_replies::events::{push_nothing, push_order};
+use cat_types::table::Table;
 use std::alloc::{AllocError, Global};
 
 /// The first of the orders with this token.
@@ -26,10 +22,10 @@ pub(crate) fn order_numbered(orders: &[Order], token: u64) -> Option<&Order>
     None
 }
 
-// Room for the reply to a take that gives the order of this reference, or none.
-fn room_for(alloc: Global, reference: &Option<Ref>) -> Result<Vec<u8>, AllocError>
+/// Room for the reply to a take that gives the order of this reference, or none.
+pub(crate) fn room_for(alloc: Global, reference: &Option<Ref>) -> Result<Vec<u8>, AllocError>
     ensures empty { IfOk result (λ out. out.items ≡ []) }
-    ensures room { IfOk result (λ out. 128 + shown_length reference.now ≤ vec_capacity out) }
+    ensures room { IfOk result (λ out. 128 + order_length reference.now ≤ vec_capacity out) }
 {
     match reference {
         None => Vec::with_capacity(alloc, ROOM),
@@ -37,62 +33,49 @@ fn room_for(alloc: Global, reference: &Option<Ref>) -> Result<Vec<u8>, AllocErro
     }
 }
 
-fn nothing(room: Vec<u8>) -> Vec<u8>
-    requires empty { room.items ≡ [] }
-    requires room { 128 ≤ vec_capacity room }
-    ensures { result.items ≡ say.nothing }
+/// The order that a reply gives.
+pub(crate) fn order_in(reply: Reply) -> Option<Order>
+    ensures { result ≡ order_in reply }
 {
-    let mut out = room;
-    match push_nothing(&mut out) {
-        Ok(()) => out,
-        Err(_) => unreachable!(),
+    match reply {
+        Reply::Taken(order) => order,
+        _other => None,
     }
 }
 
-fn ordered(room: Vec<u8>, order: &Order) -> Vec<u8>
-    requires empty { room.items ≡ [] }
-    requires room { 128 + length order.now.reference ≤ vec_capacity room }
-    ensures { result.items ≡ say.ordered order.now.token order.now.reference }
+/// The stitch order that a reply gives.
+pub(crate) fn stitch_in(reply: Reply) -> Option<StitchOrder>
+    ensures { result ≡ stitch_in reply }
 {
-    let mut out = room;
-    match push_order(&mut out, order.token, &order.reference) {
-        Ok(()) => out,
-        Err(_) => unreachable!(),
+    match reply {
+        Reply::StitchTaken(order) => order,
+        _other => None,
     }
 }
 
-fn keep(orders: &mut Vec<Order>, order: Order)
+/// Keeps the order, if there is one, in the room that was taken for it.
+pub(crate) fn keep(orders: &mut Vec<Order>, order: Option<Order>)
     requires { vec_len orders.old < vec_capacity orders.old }
-    ensures { orders.new.items ≡ orders.old.items ++ order ∷ [] }
+    ensures { orders.new.items ≡ add_order order orders.old.items }
 {
-    match orders.push(order) {
-        Ok(()) => {}
-        Err(_) => unreachable!(),
+    if let Some(order) = order {
+        match orders.push(order) {
+            Ok(()) => {}
+            Err(_) => unreachable!(),
+        }
     }
 }
 
-/// The record that is due first is leased, and its order is kept. The room for the reply and for the order is taken first.
-pub(crate) fn take<L: Layers>(
-    alloc: Global,
-    catalogue: &mut Catalogue<L>,
-    orders: &mut Vec<Order>,
-    now: u64,
-) -> Result<Vec<u8>, AllocError>
-    requires { now < 2 ^ 53 }
-    ensures ok { IfOk result (λ text. CarriesTake L.rules now catalogue.old catalogue.new orders.old.items orders.new.items text.items) }
-    ensures err { OnErr result (Stays catalogue.old catalogue.new) }
-    ensures kept { OnErr result (orders.new.items ≡ orders.old.items) }
+/// Keeps the stitch order, if there is one, under its ticket.
+pub(crate) fn keep_stitch(
+    stitches: &mut Table<u64, StitchOrder>,
+    order: Option<StitchOrder>,
+) -> Result<(), AllocError>
+    ensures ok { OnOk result (stitches.new ≡ with_order order stitches.old) }
+    ensures err { OnErr result (stitches.new ≡ stitches.old) }
 {
-    let reference = take_ref(alloc, catalogue.view(), now)?;
-    let room = room_for(alloc, &reference)?;
-    orders.reserve(1)?;
-    match catalogue.take(alloc, now) {
-        Ok(None) => Ok(nothing(room)),
-        Ok(Some(order)) => {
-            let out = ordered(room, &order);
-            keep(orders, order);
-            Ok(out)
-        }
-        Err(fault) => refused(alloc, fault),
+    match order {
+        None => Ok(()),
+        Some(order) => stitches.put(order.ticket, order),
     }
 }

@@ -1,31 +1,30 @@
 //! A session's state, and its answer to a line.
 ghost use Rattle.std.specs.Prelude.{◌≡◌, ◌<◌, ◌^◌, IfOk, OnErr};
-ghost use Rattle.std.specs.Ordering.{nat_cmp};
-ghost use Rattle.cat_table.specs.Table.{find};
-ghost use Rattle.cat_line.specs.declared.line.Line.TheVariants.{Clock, Finish, Forget, Mutate, Place, Refresh, ShelfDrop, Stitch, Take};
-ghost use Rattle.cat_line.specs.Ready.{IsReady};
-ghost use Rattle.cat_lines.specs.Word.{AnswersLine};
-ghost use Rattle.cat_model.specs.Reply as model;
-ghost use Rattle.cat_session.specs.Carried.{Carries};
+ghost use Rattle.cat_commands.specs.declared.line.Line.TheVariants as asks;
+ghost use Rattle.cat_commands.specs.Ready.{IsReady};
+ghost use Rattle.cat_desk.specs.Deed.{Deed, deed_of};
+ghost use Rattle.cat_loop.specs.Word.{AnswersLine};
+ghost use Rattle.cat_model.specs.Step.{next_taken};
+ghost use Rattle.cat_session.specs.Carried.{Carries, CarriesDeed, IsShort, Stays, order_taken};
 ghost use Rattle.cat_transcript.specs.Program.{program_settings, session_start};
-ghost use Rattle.cat_transcript.specs.Session.{after_place, place_reply, session_after, session_reply, ticket_reply, with_stitch};
+ghost use Rattle.cat_transcript.specs.Session.{add_order, session_after, session_reply};
 
-use crate::acts::{finish, forget, mutate, place, refresh, settle, shelf_drop, shelf_put};
-use crate::asks::{
-    conflicts, counts, document, documents, failures, line_refused, orphans, quiet, unknown,
-};
-use crate::orders::{order_numbered, take};
-use crate::room::Room;
-use cat_core::catalogue::Catalogue;
+use crate::orders::{keep, keep_stitch, order_in, order_numbered, room_for, stitch_in};
+use crate::replies::{ROOM, ended, line_refused, push_reply, unknown};
+use cat_commands::line::Line;
+use cat_commands::read::read_line;
+use cat_core::catalogue::{Catalogue, Done, Stitched};
+use cat_core::extra::take_ref;
+use cat_desk::command::Command;
+use cat_desk::desk::Desk;
+use cat_desk::timed::Timed;
 use cat_hold::layers::Layers;
-use cat_line::line::Line;
-use cat_line::read::read_line;
-use cat_lines::Machine;
+use cat_io::FixedClock;
+use cat_loop::Machine;
 use cat_model::types::{Order, Settings, StitchOrder};
+use cat_query::ask::Ask;
 use cat_ref::reference::Ref;
-use cat_replies::events::{push_nothing, push_ticket};
-use cat_tree::text::Text;
-use cat_types::input::Mutation;
+use cat_replies::events::push_changed;
 use cat_types::table::Table;
 use std::alloc::{AllocError, Global};
 use std::marker::Model;
@@ -39,19 +38,18 @@ pub const LEASE: u64 = 60_000;
 /// The most stored input bytes.
 pub const INPUT_LIMIT: u64 = 67_108_864;
 
-/// A catalogue, the moment in milliseconds, and the orders and stitch orders that were handed out.
+/// A catalogue with a clock that stands, and the orders and stitch orders that were handed out.
 #[derive(Drop)]
 pub struct Session<L: Layers> {
     alloc: Global,
     layers: L,
-    catalogue: Catalogue<L>,
-    now: u64,
+    desk: Timed<L, FixedClock>,
     orders: Vec<Order>,
     stitches: Table<u64, StitchOrder>,
 }
 
 impl<L: Layers> Model for Session<L> {
-    ghost use Rattle.std.specs.Prelude.{◌≡◌, ◌<◌, ◌^◌};
+    ghost use Rattle.std.specs.Prelude.{◌≡◌};
     ghost use Rattle.cat_transcript.specs.declared.state.SessionState.{SessionState};
     ghost use Rattle.cat_transcript.specs.contracts.state.SessionState.{the_row};
     ghost use Rattle.cat_transcript.specs.Program.{program_settings};
@@ -60,14 +58,63 @@ impl<L: Layers> Model for Session<L> {
 
     ghost coded = { the_row.coded };
 
-    ghost view = { λ a. record { state = a.catalogue.state; now = a.now; orders = a.orders.items; stitches = a.stitches } };
+    ghost view = { λ a. record { state = a.desk.catalogue.state; now = a.desk.clock.moment; orders = a.orders.items; stitches = a.stitches } };
 
-    ghost invariant = { λ a. (a.catalogue.settings ≡ program_settings) × (a.now < 2 ^ 53) };
+    ghost invariant = { λ a. a.desk.catalogue.settings ≡ program_settings };
+}
+
+// Has the desk act, and gives its reply as a line. The room for it is taken first.
+fn act<L: Layers>(
+    alloc: Global,
+    desk: &mut Timed<L, FixedClock>,
+    command: Command<Done<'_, L>, Stitched<'_, L>>,
+) -> Result<Vec<u8>, AllocError>
+    requires { IsShort (deed_of command) }
+    ensures ok { IfOk result (λ text. CarriesDeed L.rules desk.old.clock.moment (deed_of command.entry) desk.old.catalogue desk.new.catalogue text.items) }
+    ensures err { OnErr result (Stays desk.old.catalogue desk.new.catalogue) }
+    ensures clock { desk.new.clock.moment ≡ desk.old.clock.moment }
+{
+    let mut out = Vec::with_capacity(alloc, ROOM)?;
+    let reply = desk.act(alloc, command);
+    push_reply(&mut out, &reply)?;
+    Ok(out)
+}
+
+// The reference of the record that the next take leases.
+fn next_taken<L: Layers>(
+    alloc: Global,
+    desk: &Timed<L, FixedClock>,
+) -> Result<Option<Ref>, AllocError>
+    ensures { IfOk result (λ r. r ≡ next_taken desk.now.clock.moment desk.now.catalogue.state) }
+{
+    let now = desk.moment();
+    take_ref(alloc, desk.catalogue().view(), now)
+}
+
+// The record that is due first is leased, and its order is kept. The room for the reply and for the order is taken first.
+fn take<L: Layers>(
+    alloc: Global,
+    desk: &mut Timed<L, FixedClock>,
+    orders: &mut Vec<Order>,
+) -> Result<Vec<u8>, AllocError>
+    ensures ok { IfOk result (λ text. CarriesDeed L.rules desk.old.clock.moment Deed.Take desk.old.catalogue desk.new.catalogue text.items) }
+    ensures order { IfOk result (λ _. orders.new.items ≡ add_order (order_taken L.rules desk.old.clock.moment desk.old.catalogue) orders.old.items) }
+    ensures err { OnErr result (Stays desk.old.catalogue desk.new.catalogue) }
+    ensures kept { OnErr result (orders.new.items ≡ orders.old.items) }
+    ensures clock { desk.new.clock.moment ≡ desk.old.clock.moment }
+{
+    let reference = next_taken(alloc, desk)?;
+    let mut out = room_for(alloc, &reference)?;
+    orders.reserve(1)?;
+    let reply = desk.act(alloc, Command::Take);
+    push_reply(&mut out, &reply)?;
+    keep(orders, order_in(reply));
+    Ok(out)
 }
 
 impl<L: Layers> Session<L> {
-    /// A session over an empty catalogue, at the moment 0. The lower layers are given twice: for the catalogue, and for the
-    /// documents that are brought back.
+    /// A session over an empty catalogue, at the moment 0. The lower layers are given twice: for the catalogue, and for what is
+    /// worked of the orders that were handed out.
     pub fn new(alloc: Global, layers: L, same: L) -> Session<L>
         ensures { result ≡ session_start }
     {
@@ -79,8 +126,7 @@ impl<L: Layers> Session<L> {
         Session {
             alloc,
             layers,
-            catalogue: Catalogue::empty(alloc, same, settings),
-            now: 0,
+            desk: Timed::new(Catalogue::empty(alloc, same, settings), FixedClock::at(0)),
             orders: Vec::new(alloc),
             stitches: Table::new(alloc),
         }
@@ -88,92 +134,62 @@ impl<L: Layers> Session<L> {
 
     fn set_clock(&mut self, now: u64) -> Result<Vec<u8>, AllocError>
         requires { now < 2 ^ 53 }
-        ensures ok { IfOk result (λ text. Carries L.rules program_settings (Clock now) self.old self.new text.items) }
-        ensures err { OnErr result (self.new ≡ self.old) }
-    {
-        let room = Room::new(self.alloc)?;
-        self.now = now;
-        Ok(room.changed())
-    }
-
-    fn mutated(&mut self, provider: &Text, mutation: &Mutation) -> Result<Vec<u8>, AllocError>
-        ensures ok { IfOk result (λ text. Carries L.rules program_settings (Mutate provider.now mutation.now) self.old self.new text.items) }
-        ensures err { OnErr result (self.new ≡ self.old) }
-    {
-        mutate(self.alloc, &mut self.catalogue, provider, mutation)
-    }
-
-    fn dropped(&mut self, name: &Text) -> Result<Vec<u8>, AllocError>
-        ensures ok { IfOk result (λ text. Carries L.rules program_settings (ShelfDrop name.now) self.old self.new text.items) }
-        ensures err { OnErr result (self.new ≡ self.old) }
-    {
-        shelf_drop(self.alloc, &mut self.catalogue, name)
-    }
-
-    fn refreshed(&mut self, reference: &Ref) -> Result<Vec<u8>, AllocError>
-        ensures ok { IfOk result (λ text. Carries L.rules program_settings (Refresh reference.now) self.old self.new text.items) }
-        ensures err { OnErr result (self.new ≡ self.old) }
-    {
-        refresh(self.alloc, &mut self.catalogue, reference)
-    }
-
-    fn forgotten(&mut self, reference: &Ref) -> Result<Vec<u8>, AllocError>
-        ensures ok { IfOk result (λ text. Carries L.rules program_settings (Forget reference.now) self.old self.new text.items) }
-        ensures err { OnErr result (self.new ≡ self.old) }
-    {
-        forget(self.alloc, &mut self.catalogue, reference)
-    }
-
-    fn lease(&mut self) -> Result<Vec<u8>, AllocError>
-        ensures ok { IfOk result (λ text. Carries L.rules program_settings Take self.old self.new text.items) }
-        ensures err { OnErr result (self.new ≡ self.old) }
-    {
-        take(self.alloc, &mut self.catalogue, &mut self.orders, self.now)
-    }
-
-    fn finished(&mut self, token: u64) -> Result<Vec<u8>, AllocError>
-        ensures ok { IfOk result (λ text. Carries L.rules program_settings (Finish token) self.old self.new text.items) }
-        ensures err { OnErr result (self.new ≡ self.old) }
-    {
-        match order_numbered(self.orders.as_slice(), token) {
-            Some(order) => finish(
-                self.alloc,
-                &self.layers,
-                &mut self.catalogue,
-                order,
-                self.now,
-            ),
-            None => unknown(self.alloc),
-        }
-    }
-
-    fn hand_out(&mut self, after: u64) -> Result<Vec<u8>, AllocError>
-        ensures ok { IfOk result (λ text. Carries L.rules program_settings (Stitch after) self.old self.new text.items) }
+        ensures ok { IfOk result (λ text. Carries L.rules program_settings (asks.Clock now) self.old self.new text.items) }
         ensures err { OnErr result (self.new ≡ self.old) }
     {
         let mut out = Vec::new(self.alloc);
-        match self.catalogue.take_stitch(self.alloc, after) {
-            Ok(None) => {
-                push_nothing(&mut out)?;
-                Ok(out)
+        push_changed(&mut out)?;
+        self.desk.set_moment(now);
+        Ok(out)
+    }
+
+    // The result of an order that was handed out is brought back; it is worked anew.
+    fn finish(&mut self, token: u64) -> Result<Vec<u8>, AllocError>
+        ensures ok { IfOk result (λ text. Carries L.rules program_settings (asks.Finish token) self.old self.new text.items) }
+        ensures err { OnErr result (self.new ≡ self.old) }
+    {
+        match order_numbered(self.orders.as_slice(), token) {
+            Some(order) => {
+                let done = Done::of(self.alloc, &self.layers, order)?;
+                act(self.alloc, &mut self.desk, Command::Finish(done))
             }
-            Ok(Some(order)) => {
-                push_ticket(&mut out, order.ticket, &order.reference)?;
-                self.stitches.put(order.ticket, order)?;
-                Ok(out)
-            }
-            Err(_) => Err(AllocError),
+            None => unknown(self.alloc),
         }
     }
 
-    fn bring_back(&mut self, ticket: u64) -> Result<Vec<u8>, AllocError>
-        ensures ok { IfOk result (λ text. Carries L.rules program_settings (Place ticket) self.old self.new text.items) }
+    // The order of the next mark is kept.
+    fn stitch(&mut self, after: u64) -> Result<Vec<u8>, AllocError>
+        ensures ok { IfOk result (λ text. Carries L.rules program_settings (asks.Stitch after) self.old self.new text.items) }
+        ensures err { OnErr result (self.new ≡ self.old) }
+    {
+        let mut out = Vec::new(self.alloc);
+        let reply = self.desk.act(self.alloc, Command::TakeStitch(after));
+        push_reply(&mut out, &reply)?;
+        keep_stitch(&mut self.stitches, stitch_in(reply))?;
+        Ok(out)
+    }
+
+    // The document of a stitch order that was handed out is brought back; it is stitched anew.
+    fn place(&mut self, ticket: u64) -> Result<Vec<u8>, AllocError>
+        ensures ok { IfOk result (λ text. Carries L.rules program_settings (asks.Place ticket) self.old self.new text.items) }
         ensures err { OnErr result (self.new ≡ self.old) }
     {
         match self.stitches.get(&ticket) {
-            Some(order) => place(self.alloc, &self.layers, &mut self.catalogue, order),
+            Some(order) => {
+                let stitched = Stitched::of(self.alloc, &self.layers, order)?;
+                act(self.alloc, &mut self.desk, Command::PutStitch(stitched))
+            }
             None => unknown(self.alloc),
         }
+    }
+
+    fn ask(&mut self, ask: &Ask) -> Result<Vec<u8>, AllocError>
+        ensures ok { IfOk result (λ text. Carries L.rules program_settings (asks.Ask ask.now) self.old self.new text.items) }
+        ensures err { OnErr result (self.new ≡ self.old) }
+    {
+        let mut out = Vec::new(self.alloc);
+        let asked = self.desk.ask(self.alloc, ask, &mut out);
+        ended(out, asked)
     }
 
     // Carries out a line. For want of memory the session is as before.
@@ -182,25 +198,23 @@ impl<L: Layers> Session<L> {
         ensures ok { IfOk result (λ text. Carries L.rules program_settings line self.old self.new text.items) }
         ensures err { OnErr result (self.new ≡ self.old) }
     {
+        let alloc = self.alloc;
+        let desk = &mut self.desk;
         match line {
-            Line::Mutate(provider, mutation) => self.mutated(&provider, &mutation),
-            Line::ShelfPut(name, body) => shelf_put(self.alloc, &mut self.catalogue, &name, &body),
-            Line::ShelfDrop(name) => self.dropped(&name),
-            Line::Refresh(reference) => self.refreshed(&reference),
-            Line::Forget(reference) => self.forgotten(&reference),
+            Line::Mutate(provider, mutation) => {
+                act(alloc, desk, Command::Mutate(provider, mutation))
+            }
+            Line::ShelfPut(name, text) => act(alloc, desk, Command::ShelfPut(name, text)),
+            Line::ShelfDrop(name) => act(alloc, desk, Command::ShelfDrop(name)),
+            Line::Refresh(reference) => act(alloc, desk, Command::Refresh(reference)),
+            Line::Forget(reference) => act(alloc, desk, Command::Forget(reference)),
+            Line::Settle => act(alloc, desk, Command::Settle),
             Line::Clock(now) => self.set_clock(now),
-            Line::Take => self.lease(),
-            Line::Finish(token) => self.finished(token),
-            Line::Stitch(after) => self.hand_out(after),
-            Line::Place(ticket) => self.bring_back(ticket),
-            Line::Settle => settle(self.alloc, &mut self.catalogue, self.now),
-            Line::Quiet => quiet(self.alloc, &self.catalogue, self.now),
-            Line::State => counts(self.alloc, &self.catalogue, self.now),
-            Line::Get(reference) => document(self.alloc, &self.catalogue, &reference),
-            Line::List => documents(self.alloc, &self.catalogue),
-            Line::Conflicts => conflicts(self.alloc, &self.catalogue),
-            Line::Failed => failures(self.alloc, &self.catalogue),
-            Line::Orphans => orphans(self.alloc, &self.catalogue),
+            Line::Take => take(alloc, desk, &mut self.orders),
+            Line::Finish(token) => self.finish(token),
+            Line::Stitch(after) => self.stitch(after),
+            Line::Place(ticket) => self.place(ticket),
+            Line::Ask(ask) => self.ask(&ask),
         }
     }
 

@@ -13,6 +13,7 @@ pub record Base : Type 0 where
 abbrev pub as_base : Lent → Base
 as_base b = record { kind = b.kind.now; target = b.target.now }
 
+-- the byte is a colon
 abbrev pub is_colon : ℕ → Bool
 is_colon b = b == 58
 

@@ -1,14 +1,17 @@
 //! The top call: the words of a command line, a source and a sink in, a status out.
 //!
 //! `run` carries the headline: for the command `session` the bytes written are the abstract catalogue's replies to the lines
-//! of the bytes that the source told, and each status has its cause. It stands on cat_session, whose machine is the
-//! catalogue over the real layers of cat_layers, on cat_lines, whose loop it calls, and on cat_io for the ends.
+//! of the bytes that the source told, for `wire` those to the messages of one HTTP connection, and for `sample` the line of a
+//! sample; each status has its cause. It stands on cat_session and cat_api, whose machines are the catalogue over the real layers
+//! of cat_layers, on cat_loop and cat_wire, whose loops it calls, on cat_sample, and on cat_io for the ends.
 #![tactic(auto)]
 
 mod command;
 #[cfg(test)]
 mod tests;
 mod top;
+mod words;
 
-pub use command::{Status, run_machine};
+pub use command::{Status, answer_lines, answer_messages, tell, usage};
 pub use top::run;
+pub use words::{Command, command_of};

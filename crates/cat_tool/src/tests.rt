@@ -1,8 +1,9 @@
 ghost use Rattle.std.specs.Prelude.{◌≡◌, ◌∷◌, [], ◌++◌, IfOk};
 
-use crate::{Status, run_machine};
+use crate::command::USAGE;
+use crate::{Command, Status, answer_lines, command_of, usage};
 use cat_io::{MemorySink, MemorySource};
-use cat_lines::Machine;
+use cat_loop::Machine;
 use std::alloc::{AllocError, Global};
 use std::test::Fail;
 
@@ -31,40 +32,55 @@ impl Machine for Echo {
     }
 }
 
-const USAGE: &[u8] = b"usage: catalogue session|wire|serve|sample\n";
-
 #[test]
 fn ends_with_a_status(rt: HostRuntime) -> Result<(), Fail> {
     let alloc = rt.alloc();
-    // The words, the read and the write that fail, the status, and what is written.
-    let cases: [(&[&str], u64, u64, u8, &[u8]); 8] = [
-        (&["session"], 0, 0, 0, b"one\ntwo\nthree\n"),
-        (&["session"], 1, 0, 3, b""),
-        (&["session"], 2, 0, 3, b"one\n"),
-        (&["session"], 0, 1, 4, b""),
-        (&["session"], 0, 2, 4, b"one\n"),
-        (&[], 0, 0, 2, USAGE),
-        (&["session", "session"], 0, 0, 2, USAGE),
-        (&["sessions"], 1, 1, 2, b""),
+    // The read and the write that fail, the status, and what is written.
+    let cases: [(u64, u64, u8, &[u8]); 5] = [
+        (0, 0, 0, b"one\ntwo\nthree\n"),
+        (1, 0, 3, b""),
+        (2, 0, 3, b"one\n"),
+        (0, 1, 4, b""),
+        (0, 2, 4, b"one\n"),
     ];
-    for (words, read, write, status, written) in cases.iter() {
-        let mut texts = Vec::new(alloc);
-        for word in words.iter() {
-            texts.push(String::from_str(alloc, word)?)?;
-        }
+    for (read, write, status, written) in cases.iter() {
         let mut machine = Echo { alloc };
         let input = b"one\ntwo\r\nthree".to_vec(alloc)?;
         let mut source = MemorySource::new(input, 6, vec![in alloc; *read]?);
         let mut sink = MemorySink::new(100, vec![in alloc; *write]?);
-        let found = run_machine(
-            alloc,
-            texts.as_slice(),
-            &mut machine,
-            &mut source,
-            &mut sink,
-        );
+        let found = answer_lines(alloc, &mut machine, &mut source, &mut sink);
         assert_eq!(rt; found, Status(*status));
         assert_eq!(rt; sink.written(), *written);
+    }
+    let mut sink = MemorySink::new(100, Vec::new(alloc));
+    assert_eq!(rt; usage(&mut sink), Status(2));
+    assert_eq!(rt; sink.written(), USAGE);
+    Ok(())
+}
+
+#[test]
+fn words_are_commands(rt: HostRuntime) -> Result<(), Fail> {
+    let alloc = rt.alloc();
+    let cases: [(&[&str], Option<Command>); 12] = [
+        (&["session"], Some(Command::Session)),
+        (&["wire"], Some(Command::Wire)),
+        (&["sample", "1", "5"], Some(Command::Sample(1, 5))),
+        (&["sample", "0", "50000"], Some(Command::Sample(0, 50_000))),
+        (&["sample", "2147483648", "5"], None),
+        (&["sample", "1", "0"], None),
+        (&["sample", "1", "50001"], None),
+        (&["sample", "+1", "5"], None),
+        (&["sample", "1"], None),
+        (&["session", "session"], None),
+        (&["serve"], None),
+        (&[], None),
+    ];
+    for (words, command) in cases.iter() {
+        let mut texts = Vec::new(alloc);
+        for word in words.iter() {
+            texts.push(String::from_str(alloc, word)?)?;
+        }
+        assert_eq!(rt; command_of(texts.as_slice()), *command);
     }
     Ok(())
 }

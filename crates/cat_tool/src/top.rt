@@ -1,30 +1,84 @@
 //! The top call over the catalogue.
 
-ghost use Rattle.std.specs.Prelude.{◌≡◌, ℕ, List, ◌≤◌, ◌↔◌, ◌⊎◌, false, true, map, string_bytes};
+ghost use Rattle.std.specs.Prelude.{◌≡◌, ◌≢◌, ℕ, List, Ok, Some, None, ◌<◌, ◌≤◌, ◌^◌, ◌↔◌, ◌⊎◌, map, string_bytes};
 ghost use Rattle.std.specs.Io.KnownBytes.{Appends};
+ghost use Rattle.cat_api.specs.Wire.{wire_after, wire_reply};
+ghost use Rattle.cat_commands.specs.Lines.{line_of};
+ghost use Rattle.cat_commands.specs.declared.line.Line.TheVariants.{Settle};
+ghost use Rattle.cat_core.specs.declared.ledger.Ledger.{Ledger};
 ghost use Rattle.cat_io.specs.Causes.{Rose};
 ghost use Rattle.cat_io.specs.Sink.{AppendsFront};
 ghost use Rattle.cat_layers.specs.Layered.{layered};
-ghost use Rattle.cat_lines.specs.Runs.{after_lines};
-ghost use Rattle.cat_lines.specs.Word.{Word};
+ghost use Rattle.cat_loop.specs.Word.{Word};
 ghost use Rattle.cat_model.specs.Fresh.{IsFresh};
 ghost use Rattle.cat_model.specs.Sound.{Quiet};
-ghost use Rattle.cat_tool.specs.Status.{HasRun, is_session};
+ghost use Rattle.cat_model.specs.Step.{start};
+ghost use Rattle.cat_model.specs.declared.types.Counts.{Counts};
+ghost use Rattle.cat_replies.specs.Events.{settled};
+ghost use Rattle.cat_sample.specs.Summary.{sample_line};
+ghost use Rattle.cat_tool.specs.Sessions.{reply_next, session_at, session_next};
+ghost use Rattle.cat_tool.specs.Status.{HasRun, HasServed, HasTold};
+ghost use Rattle.cat_tool.specs.Words.{command_of};
 ghost use Rattle.cat_tool.specs.declared.command.TheConstants.{USAGE};
+ghost use Rattle.cat_transcript.specs.Inputs.{accepted_commands, inputs_fold, inputs_of};
 ghost use Rattle.cat_transcript.specs.Program.{program_settings, session_start};
+ghost use Rattle.cat_transcript.specs.Quiet.{IsAtRest};
 ghost use Rattle.cat_transcript.specs.Session.{session_after, session_reply};
 ghost use Rattle.cat_transcript.specs.declared.state.SessionState.{SessionState};
 
-use crate::command::{Status, run_machine};
+use crate::command::{Status, answer_lines, answer_messages, tell, usage};
+use crate::words::{Command, command_of};
+use cat_api::service::Service;
+use cat_core::catalogue::Catalogue;
 use cat_io::{Sink, Source};
 use cat_layers::layered::Layered;
+use cat_model::types::Settings;
+use cat_sample::sample;
 use cat_session::Session;
-use cat_transcript::law::sessions_stay_sound;
+use cat_transcript::law::{
+    inputs_are_those_of_accepted_commands, sessions_stay_sound, settled_sessions_are_at_rest,
+};
 use std::alloc::Global;
 
-/// Runs the command that the words are. `session` answers the lines of the source over an empty catalogue, one reply a line; other
-/// words write the usage line. The status says how it ended: 0 where all input was read and answered, 2 for usage, 3 where the
-/// source failed, 4 where the sink failed, 9 for want of memory before the first line, 10 where 2^40 bytes were taken.
+// The settings of the program, in milliseconds and bytes.
+fn settings() -> Settings
+    ensures { result ≡ program_settings }
+{
+    Settings {
+        interval: 120_000,
+        lease: 60_000,
+        input_limit: 67_108_864,
+    }
+}
+
+// An empty catalogue as a service.
+fn empty_service(alloc: Global) -> Service<Layered>
+    ensures { result ≡ record { settings = program_settings; state = start } }
+{
+    let catalogue = Catalogue::empty(alloc, Layered, settings());
+    Service::new(alloc, catalogue)
+}
+
+// Makes a sample and writes its line, where there was memory for it.
+fn tell_sample<O: Sink>(alloc: Global, seed: u64, count: u64, sink: &mut O) -> Status
+    requires { seed < 2 ^ 31 }
+    ensures told { HasTold (sample_line layered program_settings seed count) result.0 (O.written sink.old) (O.written sink.new) (O.faults sink.old) (O.faults sink.new) }
+    ensures memory { result.0 ≡ 9 → sink.new ≡ sink.old }
+    ensures write_fault { result.0 ≡ 4 → Rose (O.faults sink.old) (O.faults sink.new) }
+    ensures later { O.faults sink.old ≤ O.faults sink.new }
+    ensures ended { (result.0 ≡ 0) ⊎ ((result.0 ≡ 4) ⊎ (result.0 ≡ 9)) }
+{
+    match sample(alloc, Layered, settings(), seed, count) {
+        Ok(line) => tell(line.as_slice(), sink),
+        Err(_) => Status(9),
+    }
+}
+
+/// Runs the command that the words are. `session` answers the lines of the source over an empty catalogue, one reply a line; `wire`
+/// answers the messages of one HTTP connection over an empty catalogue whose moment is 0; `sample` with a seed and a count makes a sample and
+/// writes its line; other words write the usage line. The status says how it ended: 0 where all input was read and answered, 2 for usage,
+/// 3 where the source failed, 4 where the sink failed, 9 for want of memory before the first line or message, or for a sample, 10 where 2^40
+/// bytes were taken.
 pub fn run<S: Source, O: Sink>(
     alloc: Global,
     words: &[String],
@@ -32,17 +86,35 @@ pub fn run<S: Source, O: Sink>(
     sink: &mut O,
 ) -> Status
     // The bytes written are the abstract catalogue's replies to the lines of the bytes that the source told.
-    ensures headline { is_session (map string_bytes words.now) ≡ true → (end : SessionState)
+    ensures headline { command_of (map string_bytes words.now) ≡ Some Command.Session → (end : SessionState)
         × HasRun (session_after layered program_settings) (session_reply layered program_settings) result.0
         (S.left source.old) (S.left source.new) (O.written sink.old) (O.written sink.new) session_start end }
 
+    // The same of the messages of a connection.
+    ensures connection { command_of (map string_bytes words.now) ≡ Some Command.Wire → (end : Ledger)
+        × HasServed (wire_after layered) (wire_reply layered) result.0
+        (S.left source.old) (S.left source.new) (O.written sink.old) (O.written sink.new) (record { settings = program_settings; state = start }) end }
+
+    // The line of a sample is that of the abstract catalogue.
+    ensures sample { (seed count : ℕ) → command_of (map string_bytes words.now) ≡ Some (Command.Sample seed count)
+        → HasTold (sample_line layered program_settings seed count) result.0 (O.written sink.old) (O.written sink.new) (O.faults sink.old) (O.faults sink.new) }
+
     // After every prefix of the lines, where that catalogue is quiet its documents are those computed afresh.
     ensures fresh { (lines : List (List ℕ)) (outcomes : List Word) (now : ℕ)
-        → Quiet (after_lines (session_after layered program_settings) session_start lines outcomes).state now
-        → IsFresh layered (after_lines (session_after layered program_settings) session_start lines outcomes).state }
+        → Quiet (session_at lines outcomes).state now → IsFresh layered (session_at lines outcomes).state }
+
+    // Its inputs are those that the accepted commands made, one after the other.
+    ensures inputs { (lines : List (List ℕ)) (outcomes : List Word)
+        → inputs_of (session_at lines outcomes).state
+        ≡ inputs_fold (accepted_commands layered program_settings session_start lines outcomes) (inputs_of session_start.state) }
+
+    // A settle that is answered `settled` leaves it at rest, nothing due and nothing marked.
+    ensures settled { (lines : List (List ℕ)) (outcomes : List Word) (outcome : Word) (line : List ℕ) (counts : Counts)
+        → line_of line ≡ Ok Settle → reply_next lines outcomes outcome line ≡ settled counts
+        → IsAtRest (session_next lines outcomes outcome line) }
 
     // Each status has its cause.
-    ensures usage { (result.0 ≡ 2) ↔ (is_session (map string_bytes words.now) ≡ false) }
+    ensures usage { (result.0 ≡ 2) ↔ (command_of (map string_bytes words.now) ≡ None) }
     ensures usage_line { result.0 ≡ 2 → Appends (O.written sink.old) (O.written sink.new) USAGE.now
         ⊎ (AppendsFront (O.written sink.old) (O.written sink.new) USAGE.now × Rose (O.faults sink.old) (O.faults sink.new)) }
     ensures usage_same { result.0 ≡ 2 → source.new ≡ source.old }
@@ -52,12 +124,24 @@ pub fn run<S: Source, O: Sink>(
     ensures read_later { S.faults source.old ≤ S.faults source.new }
     ensures write_later { O.faults sink.old ≤ O.faults sink.new }
 
-    // Where no end failed, a session ends whole, for want of memory or at the bound.
-    ensures complete { is_session (map string_bytes words.now) ≡ true
+    // Where no end failed, a command ends whole, for want of memory or at the bound.
+    ensures complete { command_of (map string_bytes words.now) ≢ None
         → (Rose (S.faults source.old) (S.faults source.new) → ⊥) → (Rose (O.faults sink.old) (O.faults sink.new) → ⊥)
         → (result.0 ≡ 0) ⊎ ((result.0 ≡ 9) ⊎ (result.0 ≡ 10)) }
 {
     sessions_stay_sound();
-    let mut session = Session::new(alloc, Layered, Layered);
-    run_machine(alloc, words, &mut session, source, sink)
+    inputs_are_those_of_accepted_commands();
+    settled_sessions_are_at_rest();
+    match command_of(words) {
+        None => usage(sink),
+        Some(Command::Session) => {
+            let mut session = Session::new(alloc, Layered, Layered);
+            answer_lines(alloc, &mut session, source, sink)
+        }
+        Some(Command::Wire) => {
+            let mut service = empty_service(alloc);
+            answer_messages(alloc, &mut service, source, sink)
+        }
+        Some(Command::Sample(seed, count)) => tell_sample(alloc, seed, count, sink),
+    }
 }

@@ -1,18 +1,18 @@
 -- A session's catalogue stays sound.
-use Rattle.std.proofs.Common.{◌≡◌, ℕ, Bool, true, false, nat_lt, if◌then◌else◌, List, [], ◌∷◌, length}
+use Rattle.std.proofs.Common.{ℕ, Bool, true, false, nat_lt, if◌then◌else◌, List, [], ◌∷◌, length}
 use Rattle.std.specs.declared.option.Option.{Option}
 use Rattle.std.specs.declared.option.Option.TheVariants.{None, Some}
 use Rattle.std.specs.declared.result.Result.{Result}
 use Rattle.std.specs.declared.result.Result.TheVariants.{Ok, Err}
 use Rattle.std.specs.Ordering.{nat_cmp}
 use Rattle.cat_table.specs.Table.{find}
-use Rattle.cat_lines.specs.Word.{Word, plain, memory, cut}
-use Rattle.cat_lines.specs.Runs.{line_after, after_lines}
-use Rattle.cat_lines.specs.declared.buffer.TheConstants.{LINE_LIMIT}
-use Rattle.cat_line.specs.Lines.{line_of}
-use Rattle.cat_line.specs.declared.line.Line.{Line}
-use Rattle.cat_line.specs.declared.line.Line.TheVariants as asks
-use Rattle.cat_line.specs.declared.fault.LineFault.{LineFault}
+use Rattle.cat_loop.specs.Word.{Word, plain, memory, cut}
+use Rattle.cat_loop.specs.Runs.{line_after, after_lines}
+use Rattle.cat_loop.specs.Lines.{longest_line}
+use Rattle.cat_commands.specs.Lines.{line_of}
+use Rattle.cat_commands.specs.declared.line.Line.{Line}
+use Rattle.cat_commands.specs.declared.line.Line.TheVariants as asks
+use Rattle.cat_commands.specs.declared.fault.LineFault.{LineFault}
 use Rattle.cat_model.specs.Catalogue.{Rules}
 use Rattle.cat_model.specs.Given.{given}
 use Rattle.cat_model.specs.Reply.{next_stitch}
@@ -51,13 +51,7 @@ module _ (rules : Rules) (s : Settings) where
   carried w (asks.Stitch after) m sound = handed (next_stitch rules m.state after) m sound
   carried w (asks.Place ticket) m sound = placed (find nat_cmp ticket m.stitches) m sound
   carried w asks.Settle m sound = (settle_keeps rules s m.now (limit_of w) m.state).sound sound
-  carried w asks.Quiet m sound = sound
-  carried w asks.State m sound = sound
-  carried w (asks.Get r) m sound = sound
-  carried w asks.List m sound = sound
-  carried w asks.Conflicts m sound = sound
-  carried w asks.Failed m sound = sound
-  carried w asks.Orphans m sound = sound
+  carried w (asks.Ask ask) m sound = sound
 
   resulted : (w : Word) (o : Result Line LineFault) (m : SessionState) → Sound rules m.state → Sound rules (after_result rules s w o m).state
   resulted w (Ok line) m sound = carried w line m sound
@@ -73,9 +67,9 @@ module _ (rules : Rules) (s : Settings) where
 
   line_sound : (m : SessionState) (w : Word) (line : List ℕ) → Sound rules m.state → Sound rules (line_after (session_after rules s) m w line).state
   unfolding line_after
-  line_sound m plain line sound = either_sound (nat_lt LINE_LIMIT (length line)) m _ sound (after_sound m plain line sound)
+  line_sound m plain line sound = either_sound (nat_lt longest_line (length line)) m _ sound (after_sound m plain line sound)
   line_sound m memory line sound = sound
-  line_sound m (cut n) line sound = either_sound (nat_lt LINE_LIMIT (length line)) m _ sound (after_sound m (cut n) line sound)
+  line_sound m (cut n) line sound = either_sound (nat_lt longest_line (length line)) m _ sound (after_sound m (cut n) line sound)
 
   pub lines_sound : (m : SessionState) (lines : List (List ℕ)) (words : List Word) → Sound rules m.state → Sound rules (after_lines (session_after rules s) m lines words).state
   lines_sound m [] words sound = sound

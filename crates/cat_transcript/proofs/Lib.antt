@@ -1,1 +1,4 @@
 pub mod Kept
+pub mod Fed
+pub mod Told
+pub mod Words

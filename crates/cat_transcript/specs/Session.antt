@@ -5,15 +5,14 @@ use Rattle.std.specs.declared.option.Option.TheVariants.{None, Some}
 use Rattle.std.specs.declared.result.Result.{Result}
 use Rattle.std.specs.declared.result.Result.TheVariants.{Ok, Err}
 use Rattle.std.specs.Ordering.{nat_cmp}
-use Rattle.cat_tree.specs.Data.{Data}
-use Rattle.cat_table.specs.Table.{find, put, get}
+use Rattle.cat_table.specs.Table.{find, put}
 use Rattle.cat_transcript.specs.declared.state.SessionState.{SessionState}
-use Rattle.cat_lines.specs.Word.{Word, plain, memory, cut}
-use Rattle.cat_line.specs.Lines.{line_of}
-use Rattle.cat_line.specs.declared.line.Line.{Line}
-use Rattle.cat_line.specs.declared.line.Line.TheVariants as asks
-use Rattle.cat_line.specs.declared.fault.LineFault.{LineFault}
-use Rattle.cat_line.specs.declared.fault.LineFault.TheVariants.{LongLine, BadWord, BadArguments, Input, NoMemory}
+use Rattle.cat_loop.specs.Word.{Word, plain, memory, cut}
+use Rattle.cat_commands.specs.Lines.{line_of}
+use Rattle.cat_commands.specs.declared.line.Line.{Line}
+use Rattle.cat_commands.specs.declared.line.Line.TheVariants as asks
+use Rattle.cat_commands.specs.declared.fault.LineFault.{LineFault}
+use Rattle.cat_commands.specs.declared.fault.LineFault.TheVariants.{LongLine, BadWord, BadArguments, Input, Reference, Query, NoMemory}
 use Rattle.cat_model.specs.Catalogue.{Rules}
 use Rattle.cat_model.specs.declared.types.State.{State}
 use Rattle.cat_model.specs.declared.types.Settings.{Settings}
@@ -29,9 +28,9 @@ use Rattle.cat_model.specs.Settle.{try_settle}
 use Rattle.cat_model.specs.declared.types.Stop.TheVariants.{Refused, Limit}
 use Rattle.cat_model.specs.declared.types.Fault.TheVariants.{OldSerial, NotFound, TooLarge, Spent}
 use Rattle.cat_model.specs.Reply as model
+use Rattle.cat_replies.specs.Asks.{answered, ask_text}
 use Rattle.cat_replies.specs.Events as say
 use Rattle.cat_replies.specs.Faults as faults
-use Rattle.cat_replies.specs.Lists.{shown, documents_listed, orphans_listed, failures_listed, conflicts_listed}
 
 -- ---- what a line does
 
@@ -85,6 +84,7 @@ limit_of (cut n) = Some n
 abbrev pub settled : Rules → Settings → Word → SessionState → Progress
 settled rules s word m = try_settle rules s m.now (limit_of word) m.state
 
+-- a question changes nothing
 abbrev pub after_reading : Rules → Settings → Word → Line → SessionState → SessionState
 after_reading rules s word (asks.Mutate provider mutation) m = after_event rules s (Mutate provider (given provider mutation)) m
 after_reading rules s word (asks.ShelfPut name text) m = after_event rules s (ShelfPut name text) m
@@ -97,13 +97,7 @@ after_reading rules s word (asks.Finish token) m = after_finish rules s (order_n
 after_reading rules s word (asks.Stitch after) m = with_stitch (model.next_stitch rules m.state after) m
 after_reading rules s word (asks.Place ticket) m = after_place rules s (find nat_cmp ticket m.stitches) m
 after_reading rules s word asks.Settle m = with_state (settled rules s word m).state m
-after_reading rules s word asks.Quiet m = m
-after_reading rules s word asks.State m = m
-after_reading rules s word (asks.Get r) m = m
-after_reading rules s word asks.List m = m
-after_reading rules s word asks.Conflicts m = m
-after_reading rules s word asks.Failed m = m
-after_reading rules s word asks.Orphans m = m
+after_reading rules s word (asks.Ask ask) m = m
 
 abbrev pub after_result : Rules → Settings → Word → Result Line LineFault → SessionState → SessionState
 after_result rules s word (Ok line) m = after_reading rules s word line m
@@ -140,10 +134,6 @@ abbrev pub place_reply : Rules → Settings → Option StitchOrder → SessionSt
 place_reply rules s None m = say.unknown
 place_reply rules s (Some x) m = event_reply rules s (PutStitch x) m (say.placed (model.placed rules x m.state))
 
-abbrev pub document_reply : Option Data → List ℕ
-document_reply None = say.refused NotFound
-document_reply (Some document) = shown document
-
 -- a settle is refused only where a counter is spent
 abbrev pub cut_reply : ℕ → Fault → List ℕ
 cut_reply events (Spent counter) = say.cut_by_counter events counter
@@ -174,13 +164,7 @@ reply_to rules s word (asks.Finish token) m = finish_reply rules s (order_number
 reply_to rules s word (asks.Stitch after) m = ticket_reply (model.next_stitch rules m.state after)
 reply_to rules s word (asks.Place ticket) m = place_reply rules s (find nat_cmp ticket m.stitches) m
 reply_to rules s word asks.Settle m = settle_reply word (settled rules s word m)
-reply_to rules s word asks.Quiet m = say.quiet (model.is_quiet m.state m.now)
-reply_to rules s word asks.State m = say.counted (model.state_counts m.state m.now)
-reply_to rules s word (asks.Get r) m = document_reply (get m.state.documents r)
-reply_to rules s word asks.List m = shown (documents_listed m.state.documents)
-reply_to rules s word asks.Conflicts m = shown (conflicts_listed m.state)
-reply_to rules s word asks.Failed m = shown (failures_listed m.state.records)
-reply_to rules s word asks.Orphans m = shown (orphans_listed m.state.orphans)
+reply_to rules s word (asks.Ask ask) m = answered (ask_text ask m.now m.state)
 
 -- the reply to a line that is no command
 abbrev pub line_fault : LineFault → List ℕ
@@ -188,6 +172,8 @@ line_fault LongLine = faults.long_line
 line_fault BadWord = faults.bad_word
 line_fault BadArguments = faults.bad_arguments
 line_fault (Input fault) = faults.no_mutation fault
+line_fault (Reference place) = faults.no_reference place
+line_fault (Query fault) = faults.no_query fault
 line_fault NoMemory = say.no_memory
 
 abbrev pub reply_to_result : Rules → Settings → Word → Result Line LineFault → SessionState → List ℕ

@@ -6,7 +6,8 @@ use cat_inputs::input::read_mutation;
 use cat_io::{MemorySink, MemorySource};
 use cat_layers::layered::Layered;
 use cat_model::types::{Settings, State};
-use cat_replies::lists::push_documents;
+use cat_query::answers::push_list;
+use cat_query::read::read_query;
 use cat_tool::{Status, run};
 use cat_tree::text::Text;
 use std::alloc::Global;
@@ -60,14 +61,12 @@ fn ends_where_an_end_fails(rt: HostRuntime) -> Result<(), Fail> {
 }
 
 fn shown(alloc: Global, state: &State) -> Result<(Vec<u8>, Vec<u8>), Fail> {
+    let all = read_query(alloc, "")?;
     let mut kept = Vec::new(alloc);
-    push_documents(alloc, &mut kept, &state.documents)?;
+    push_list(alloc, &mut kept, &state.documents, &all)?;
     let mut afresh = Vec::new(alloc);
-    push_documents(
-        alloc,
-        &mut afresh,
-        &documents_afresh(alloc, &Layered, state)?,
-    )?;
+    let documents = documents_afresh(alloc, &Layered, state)?;
+    push_list(alloc, &mut afresh, &documents, &all)?;
     Ok((kept, afresh))
 }
 

@@ -1,16 +1,20 @@
-//! A gauge for the scripts in bench/: how fast descriptors are read, written and checked.
+//! A gauge for the scripts in bench/ and tools/: how fast descriptors are read, written and checked, and what a text in block
+//! YAML is read as.
 //!
-//! Its words are `read`, `write` or `check`, and how often. Standard input is a JSON list of descriptors. It prints how many
-//! descriptors it went over in all, and how many faults it found. It promises nothing.
+//! Its words are `read`, `write` or `check`, and how often. Standard input is a JSON list of descriptors; after `read-yaml`, and
+//! how often, it is a text in block YAML. It prints how many descriptors it went over in all, and how many faults it found.
+//! After the word `yaml` alone it prints the documents of a text in block YAML as a JSON list, or the fault. It promises
+//! nothing.
 #![tactic(auto)]
 
 use cat_schema::rules::check;
 use cat_tree::read::{TreeFault, read};
-use cat_tree::tree::Tree;
+use cat_tree::tree::{Tree, Trees};
 use cat_tree::write::write;
+use cat_yaml::read::read_yaml;
 use std::alloc::{AllocError, Global};
 use std::env;
-use std::io::{self, Read};
+use std::io::{self, Read, Write};
 
 fn faults(alloc: Global, list: &Tree) -> Result<u64, AllocError> {
     let mut count = 0u64;
@@ -27,6 +31,28 @@ fn entries(list: &Tree) -> u64 {
         Tree::List(trees) => trees.len() as u64,
         _ => 1,
     }
+}
+
+// The documents of a text in block YAML as a list.
+fn documents(alloc: Global, bytes: &[u8]) -> Result<Tree, TreeFault> {
+    Ok(Tree::List(Trees::from_vec(read_yaml(alloc, bytes)?)))
+}
+
+// The JSON of the documents of a text in block YAML.
+fn converted(alloc: Global, bytes: &[u8]) -> Result<Vec<u8>, TreeFault> {
+    let list = documents(alloc, bytes)?;
+    let mut out = Vec::new(alloc);
+    write(alloc, &list, &mut out)?;
+    Ok(out)
+}
+
+// How many descriptors were read from block YAML.
+fn read_from_yaml(alloc: Global, times: u64, bytes: &[u8]) -> Result<(u64, u64), TreeFault> {
+    let mut descriptors = 0u64;
+    for _ in 0..times {
+        descriptors = descriptors.saturating_add(entries(&documents(alloc, bytes)?));
+    }
+    Ok((descriptors, 0))
 }
 
 // How many descriptors were gone over, and how many faults were found.
@@ -52,6 +78,15 @@ fn measured(alloc: Global, word: &str, times: u64, bytes: &[u8]) -> Result<(u64,
     Ok((descriptors, found))
 }
 
+// The name of what keeps a text from being read.
+fn name_of(fault: TreeFault) -> &'static str {
+    match fault {
+        TreeFault::Syntax => "Syntax",
+        TreeFault::Fraction => "Fraction",
+        TreeFault::NoMemory => "NoMemory",
+    }
+}
+
 fn main(rt: HostRuntime) -> io::Result<()> {
     let alloc = rt.alloc();
     let mut args = env::args(&rt)?.skip(1);
@@ -62,7 +97,17 @@ fn main(rt: HostRuntime) -> io::Result<()> {
     };
     let mut bytes = Vec::new(alloc);
     rt.stdin().read_to_end(&mut bytes)?;
-    match measured(alloc, word.as_str(), times, bytes.as_slice()) {
+    if word.as_str() == "yaml" {
+        return match converted(alloc, bytes.as_slice()) {
+            Ok(text) => rt.stdout().write_all(text.as_slice()),
+            Err(fault) => println!(rt; "{}", name_of(fault)),
+        };
+    }
+    let gone_over = match word.as_str() {
+        "read-yaml" => read_from_yaml(alloc, times, bytes.as_slice()),
+        word => measured(alloc, word, times, bytes.as_slice()),
+    };
+    match gone_over {
         Ok((descriptors, found)) => { println!(rt; "{descriptors} descriptors, {found} faults") }
         Err(_) => println!(rt; "no list of descriptors"),
     }

@@ -30,7 +30,7 @@ returns-in_ok-alone-in-Some g c =
     let found : get m.records order.reference ≡ Some kept =
     ap (λ (o : Order). get m.records o.reference) (sym c.order.ensures) ∙ (sym c.get.ensures ∙ ap (option_map (λ x. x.now)) c.in-Some.is) in
     let present = sym (ap (is_present_order rules m order) found) ∙ c.requires.present in
-    let comes = finish_alone_comes rules c.args.settings.now order c.args.now m kept c.requires.steady.sound c.requires.steady.ordered found present c.requires.rows alone.kept made.kept alone.marks.items made.marks in
+    let comes = finish_alone_comes rules c.args.settings.now order c.args.now m kept c.requires.steady.sound c.requires.steady.ordered found present c.requires.offers alone.kept made.kept alone.marks.items made.marks in
     alone_come rules c.args.settings.now (Finish order c.args.now) m c.applied.new.state c.args.links.now alone.plan.after c.applied.new.links c.order.result.now.reference alone.kept alone.marks.items c.applied.result c.requires.steady
     (subst (λ (o : Order). AreLinked rules alone.plan.after (with_record o.reference alone.kept m)) (sym c.order.ensures) made.linked)
     (subst (λ (o : Order). come_to rules c.args.settings.now (Finish order c.args.now) m ≡ stepped (spent (alone_state o.reference alone.kept alone.marks.items m)) (alone_state o.reference alone.kept alone.marks.items m)) (sym c.order.ensures) comes)

@@ -1,4 +1,4 @@
-use Rattle.std.proofs.Common.{◌≡◌, ap, sym, ◌∙◌, is_some}
+use Rattle.std.proofs.Common.{ap, sym, ◌∙◌, is_some}
 use Rattle.std.specs.FinMap.Entries.{is_sorted}
 use Rattle.cat_table.specs.Table.{get, put, text_antisymmetric, text_cmp, text_total}
 use Rattle.cat_events.specs.Alone.{rerecorded_at}

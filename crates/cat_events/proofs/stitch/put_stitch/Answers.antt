@@ -1,4 +1,4 @@
-use Rattle.std.proofs.Common.{◌≡◌, ap, sym, ◌∙◌}
+use Rattle.std.proofs.Common.{ap, sym, ◌∙◌}
 use Rattle.cat_table.specs.Rows.{without}
 use Rattle.cat_table.specs.Table.{put, text_cmp}
 use Rattle.cat_model.specs.Step.{is_present_stitch}

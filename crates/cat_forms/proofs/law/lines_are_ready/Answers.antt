@@ -1,4 +1,4 @@
-use Rattle.cat_line.specs.declared.line.Line.TheVariants.{Mutate}
+use Rattle.cat_commands.specs.declared.line.Line.TheVariants.{Mutate}
 use Rattle.cat_forms.proofs.Ready.{line_ready}
 use Rattle.cat_forms.proofs.law.lines_are_ready.Goals as goal
 

@@ -1,16 +1,16 @@
 use Rattle.std.proofs.Common.{◌≡◌, ℕ, List, Ok}
 use Rattle.cat_layers.specs.Layered.{layered}
-use Rattle.cat_line.specs.Lines.{line_of}
-use Rattle.cat_line.specs.declared.line.Line.{Line}
-use Rattle.cat_line.specs.declared.line.Line.TheVariants as line
+use Rattle.cat_commands.specs.Lines.{line_of}
+use Rattle.cat_commands.specs.declared.line.Line.{Line}
+use Rattle.cat_commands.specs.declared.line.Line.TheVariants as line
 use Rattle.cat_transcript.specs.Program.{session_start}
 use Rattle.cat_forms.specs.Real.{real_forms}
 use Rattle.cat_forms.proofs.Given.{given_formed}
 use Rattle.cat_forms.proofs.Ready.{IsReadLine, line_ready}
 use Rattle.cat_forms.proofs.Sessions.{IsFormedLine, lines_stand}
 use Rattle.cat_forms.proofs.Stored.{Holds, start_holds}
-use Rattle.cat_lines.specs.Runs.{after_lines}
-use Rattle.cat_lines.specs.Word.{Word}
+use Rattle.cat_loop.specs.Runs.{after_lines}
+use Rattle.cat_loop.specs.Word.{Word}
 use Rattle.cat_model.specs.declared.types.Settings.{Settings}
 use Rattle.cat_offers.proofs.Forms.{entity_is}
 use Rattle.cat_transcript.specs.Session.{session_after}
@@ -31,13 +31,7 @@ read_is_formed (line.Finish n) h = tt
 read_is_formed (line.Stitch n) h = tt
 read_is_formed (line.Place n) h = tt
 read_is_formed line.Settle h = tt
-read_is_formed line.Quiet h = tt
-read_is_formed line.State h = tt
-read_is_formed (line.Get r) h = tt
-read_is_formed line.List h = tt
-read_is_formed line.Conflicts h = tt
-read_is_formed line.Failed h = tt
-read_is_formed line.Orphans h = tt
+read_is_formed (line.Ask ask) h = tt
 
 line_is_formed : (bytes : List ℕ) (l : Line) → line_of bytes ≡ Ok l → IsFormedLine real_forms l
 line_is_formed bytes l e = read_is_formed l (line_ready bytes l e)

@@ -1,11 +1,12 @@
-use Rattle.std.proofs.Common.{◌≡◌, ◌≤◌, length, drop}
+use Rattle.std.proofs.Common.{◌≡◌}
+use Rattle.cat_table.specs.Left.{items_left}
 use Rattle.cat_table.specs.Table.{keys}
 use Rattle.cat_query.specs.Facets.{all_more}
 use Rattle.cat_query.proofs.facets.add_all.Given as goal
 
--- those from the place on were counted
-abbrev pub invariant-loop-left : goal.invariant-loop-left
-invariant-loop-left l = (l.left ≤ length l.texts) × (l.counts ≡ all_more (keys (drop l.left l.texts)) l.fn.counts)
-
-abbrev pub decreases-loop-left : goal.decreases-loop-left
-decreases-loop-left l = l.left
+-- with those that are left counted too, all are
+abbrev pub invariant-loop-text : goal.invariant-loop-text
+invariant-loop-text l =
+    goal.iterator-loop-text.can_next l.text-iterator
+    × goal.iterator-loop-text.is_finite l.text-iterator
+    × (all_more (keys (items_left l.text-iterator)) l.counts ≡ all_more (keys l.texts) l.fn.counts)

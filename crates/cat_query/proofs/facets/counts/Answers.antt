@@ -1,17 +1,17 @@
-use Rattle.std.proofs.Common.{sym, arith}
-use Rattle.cat_query.proofs.Counted.{counted_one, passed_over}
+use Rattle.std.proofs.Common.{ap, map, ◌∙◌, sym}
+use Rattle.std.proofs.lemmas.List.{drop_all}
+use Rattle.std.specs.Option.{unwrap_or}
+use Rattle.cat_table.specs.Table.{get}
+use Rattle.cat_query.specs.Facets.{counted, values_among}
+use Rattle.cat_query.specs.Page.{pair_seen}
+use Rattle.cat_query.proofs.Numbers.{number_at}
 use Rattle.cat_query.proofs.facets.counts.Goals as goal
 
-pub loop-left-preserved-in-Continue-1 : goal.loop-left-preserved-in-Continue-1
-loop-left-preserved-in-Continue-1 g c = (
-  omega arith,
-  counted_one c.args.filters.now c.args.key.now (g.D.Documents.pairs c.args.docs.now) _ c.loop-left.left _ c.loop-left.counts c.add_document.new.counts _ (omega arith)
-      (sym c.in-Some.ensures) c.is_accepted.ensures c.if-is_accepted.true c.loop-left.invariant.1 c.in_ok-add_document.ensures,
-)
-
-pub loop-left-preserved : goal.loop-left-preserved
-loop-left-preserved g c = (
-  omega arith,
-  passed_over c.args.filters.now c.args.key.now (g.D.Documents.pairs c.args.docs.now) _ c.loop-left.left _ c.loop-left.counts _ (omega arith)
-      (sym c.in-Some.ensures) c.is_accepted.ensures c.if-is_accepted.false c.loop-left.invariant.1,
-)
+pub returns-clause-each : goal.returns-clause-each
+returns-clause-each c v =
+    let key = c.args.key.now in
+    let ds = c.args.documents.now in
+    ap (λ m. unwrap_or (get m v) 0)
+    (ap (λ l. counted (values_among key (map pair_seen l)) c.loop-document.counts) (sym (drop_all c.loop-document.document-index ds c.loop-document-test.false))
+    ∙ c.loop-document.invariant)
+    ∙ number_at (values_among key (map pair_seen ds)) v

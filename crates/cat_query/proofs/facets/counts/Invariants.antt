@@ -1,12 +1,9 @@
-use Rattle.std.proofs.Common.{◌≡◌, ◌≤◌, length, drop}
-use Rattle.cat_query.specs.Facets.{counts, values_among}
+use Rattle.std.proofs.Common.{◌≡◌, [], drop, map}
+use Rattle.cat_query.specs.Facets.{counted, values_among}
+use Rattle.cat_query.specs.Page.{pair_seen}
 use Rattle.cat_query.proofs.facets.counts.Given as goal
 
--- the documents from the place on were counted
-abbrev pub invariant-loop-left : goal.invariant-loop-left
-invariant-loop-left g l =
-    (l.left ≤ length (g.D.Documents.pairs l.docs))
-    × (l.counts ≡ counts (values_among l.filters l.key (drop l.left (g.D.Documents.pairs l.docs))))
-
-abbrev pub decreases-loop-left : goal.decreases-loop-left
-decreases-loop-left g l = l.left
+-- with those that are left counted too, all are
+abbrev pub invariant-loop-document : goal.invariant-loop-document
+invariant-loop-document l =
+    counted (values_among l.key (map pair_seen (drop l.document-index l.documents))) l.counts ≡ counted (values_among l.key (map pair_seen l.documents)) []

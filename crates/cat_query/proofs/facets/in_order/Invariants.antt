@@ -4,7 +4,7 @@ use Rattle.cat_query.proofs.facets.in_order.Given as goal
 
 -- those from the place on are in order
 abbrev pub invariant-loop-left : goal.invariant-loop-left
-invariant-loop-left l = (l.left ≤ length l.texts) × (l.table ≡ tabulate text_cmp (drop l.left l.texts) (λ x. Some (tt {0})))
+invariant-loop-left l = (l.left ≤ length l.texts) × (l.distinct ≡ tabulate text_cmp (drop l.left l.texts) (λ x. Some (tt {0})))
 
 abbrev pub decreases-loop-left : goal.decreases-loop-left
 decreases-loop-left l = l.left

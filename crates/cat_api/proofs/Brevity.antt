@@ -1,0 +1,239 @@
+-- How long the replies to commands are.
+use Rattle.std.proofs.Common.{◌≡◌, ℕ, ◌+◌, ◌^◌, ◌<◌, ◌≤◌, Bool, true, false, List, [], ◌∷◌, ◌++◌, length, length-append, refl, sym, subst, arith, codes}
+use Rattle.std.specs.Prelude.{IfOk, Result, Ok, Err, IsTrue, if◌then◌else◌, ◌==◌, ◌||◌}
+use Rattle.std.specs.Fmt.{decimal}
+use Rattle.std.proofs.Common.{inl, inr}
+use Rattle.std.proofs.lemmas.Bool.Decides.{eqb_tells}
+use Rattle.std.proofs.lemmas.Fmt.{length-decimal-le}
+use Rattle.cat_http.specs.Errors.{error_body}
+use Rattle.cat_http.specs.Reply.{is_named, phrase_of, status_line, content_lines, allow_line, close_line, end_of, reply_bytes}
+use Rattle.cat_http.specs.declared.message.Message.{Message}
+use Rattle.cat_http.specs.declared.reply.HttpReply.{HttpReply}
+use Rattle.cat_model.specs.declared.types.Acted.{Acted}
+use Rattle.cat_model.specs.declared.types.Acted.TheVariants.{Now, Again}
+use Rattle.cat_model.specs.declared.types.Counter.{Counter}
+use Rattle.cat_model.specs.declared.types.Counter.TheVariants.{Arrival, Number, Token, Ticket}
+use Rattle.cat_model.specs.declared.types.Counts.{Counts}
+use Rattle.cat_replies.specs.Events.{counter_text}
+use Rattle.cat_replies.specs.Line.{joined}
+use Rattle.cat_requests.specs.Answers.{answer_body, answer_allow, counts_body, acted_body, reply_to, IsShort, IsShortRefusal}
+use Rattle.cat_requests.specs.Refusals.{allowed, status_of, words_of}
+use Rattle.cat_requests.specs.declared.answer.Answer.{Answer}
+use Rattle.cat_requests.specs.declared.answer.Answer.TheVariants.{Shown, Mutated, Done, Refreshed, Settled, Refused}
+use Rattle.cat_requests.specs.declared.refusal.Refusal.{Refusal}
+use Rattle.cat_requests.specs.declared.refusal.Refusal.TheVariants as refusal
+use Rattle.cat_api.specs.Room.{AreSmall, HasNumbers, AreNumbers, IsBrief}
+
+short_decimal : (n : ℕ) → n < 2 ^ 64 → length (decimal n) ≤ 20
+short_decimal n h = length-decimal-le 20 n (omega arith) (omega (arith, h)) h
+
+-- ---- bodies
+
+error_short : (status : ℕ) (words : List ℕ) → status < 2 ^ 64 → length words ≤ 60 → length (error_body status words) ≤ 160
+error_short status words s w =
+    let d = short_decimal status s in
+    let rest = decimal status ++ codes "}}" in
+    let a = length-append (decimal status) (codes "}}") in
+    let b = length-append (codes "\"},\"response\":{\"statusCode\":") rest in
+    let c = length-append words (codes "\"},\"response\":{\"statusCode\":" ++ rest) in
+    let e = length-append (codes "{\"error\":{\"message\":\"") (words ++ (codes "\"},\"response\":{\"statusCode\":" ++ rest)) in
+    omega (arith, a, b, c, e, d, w)
+
+counter_short : (c : Counter) → length (counter_text c) ≤ 7
+counter_short Arrival = omega arith
+counter_short Number = omega arith
+counter_short Token = omega arith
+counter_short Ticket = omega arith
+
+numbered_short : (words : List ℕ) (n : ℕ) → length words ≤ 12 → n < 2 ^ 64 → length (joined (words ∷ decimal n ∷ [])) ≤ 60
+numbered_short words n w h =
+    let a = length-append words (decimal n ++ []) in
+    let b = length-append (decimal n) [] in
+    omega (arith, a, b, w, short_decimal n h)
+
+spent_short : (counter : Counter) → length (joined (words_of (refusal.Spent counter))) ≤ 60
+spent_short counter =
+    let a = length-append (codes "spent ") (counter_text counter ++ []) in
+    let b = length-append (counter_text counter) [] in
+    omega (arith, a, b, counter_short counter)
+
+cut_short : (events : ℕ) (counter : Counter) → events < 2 ^ 64 → length (joined (words_of (refusal.CutByCounter events counter))) ≤ 60
+cut_short events counter h =
+    let rest = codes " " ++ (decimal events ++ []) in
+    let a = length-append (codes "spent ") (counter_text counter ++ rest) in
+    let b = length-append (counter_text counter) rest in
+    let c = length-append (codes " ") (decimal events ++ []) in
+    let d = length-append (decimal events) [] in
+    omega (arith, a, b, c, d, counter_short counter, short_decimal events h)
+
+words_short : (r : Refusal) → IsShortRefusal r → HasNumbers r → length (joined (words_of r)) ≤ 60
+words_short refusal.Route s n = omega arith
+words_short (refusal.Method ms) s n = absurd s
+words_short refusal.Entity s n = omega arith
+words_short refusal.Shelf s n = omega arith
+words_short refusal.Name s n = omega arith
+words_short refusal.Text s n = omega arith
+words_short (refusal.Reference i) s n = numbered_short (codes "reference ") i (omega arith) n
+words_short (refusal.Input fault) s n = absurd s
+words_short (refusal.Query fault) s n = absurd s
+words_short refusal.Facet s n = omega arith
+words_short (refusal.OldSerial last) s n = numbered_short (codes "old_serial ") last (omega arith) n
+words_short (refusal.TooLarge sum) s n = numbered_short (codes "too_large ") sum (omega arith) n
+words_short (refusal.Spent counter) s n = spent_short counter
+words_short (refusal.CutByCounter events counter) s n = cut_short events counter n
+words_short (refusal.CutByMemory events) s n = numbered_short (codes "memory ") events (omega arith) n
+words_short refusal.Reply s n = omega arith
+words_short refusal.NoMemory s n = omega arith
+
+status_small : (r : Refusal) → status_of r < 2 ^ 64
+status_small refusal.Route = omega arith
+status_small (refusal.Method ms) = omega arith
+status_small refusal.Entity = omega arith
+status_small refusal.Shelf = omega arith
+status_small refusal.Name = omega arith
+status_small refusal.Text = omega arith
+status_small (refusal.Reference i) = omega arith
+status_small (refusal.Input fault) = omega arith
+status_small (refusal.Query fault) = omega arith
+status_small refusal.Facet = omega arith
+status_small (refusal.OldSerial last) = omega arith
+status_small (refusal.TooLarge sum) = omega arith
+status_small (refusal.Spent counter) = omega arith
+status_small (refusal.CutByCounter events counter) = omega arith
+status_small (refusal.CutByMemory events) = omega arith
+status_small refusal.Reply = omega arith
+status_small refusal.NoMemory = omega arith
+
+counts_short : (n : Counts) → AreNumbers n → length (counts_body n) ≤ 160
+counts_short n h =
+    let e = codes "}" ++ [] in
+    let d = decimal n.stitched ++ e in
+    let c = codes ",\"stitched\":" ++ d in
+    let b = decimal n.rounds ++ c in
+    let a = codes ",\"rounds\":" ++ b in
+    let z = decimal n.leases ++ a in
+    omega (
+      arith,
+      length-append (codes "{\"leases\":") z,
+      length-append (decimal n.leases) a,
+      length-append (codes ",\"rounds\":") b,
+      length-append (decimal n.rounds) c,
+      length-append (codes ",\"stitched\":") d,
+      length-append (decimal n.stitched) e,
+      short_decimal n.leases h.1,
+      short_decimal n.rounds h.0,
+      short_decimal n.stitched h.2,
+    )
+
+acted_short : (a : Acted) → length (acted_body a) ≤ 160
+acted_short Now = omega arith
+acted_short Again = omega arith
+
+body_short : (a : Answer) → IsShort a → AreSmall a → length (answer_body a) ≤ 160
+body_short (Shown text) s n = absurd s
+body_short (Mutated acted) s n = acted_short acted
+body_short Done s n = omega arith
+body_short Refreshed s n = omega arith
+body_short (Settled counts) s n = counts_short counts n
+body_short (Refused r) s n = error_short (status_of r) (joined (words_of r)) (status_small r) (words_short r s n)
+
+allows_none : (r : Refusal) → IsShortRefusal r → allowed r ≡ []
+allows_none refusal.Route s = refl
+allows_none (refusal.Method ms) s = absurd s
+allows_none refusal.Entity s = refl
+allows_none refusal.Shelf s = refl
+allows_none refusal.Name s = refl
+allows_none refusal.Text s = refl
+allows_none (refusal.Reference i) s = refl
+allows_none (refusal.Input fault) s = absurd s
+allows_none (refusal.Query fault) s = absurd s
+allows_none refusal.Facet s = refl
+allows_none (refusal.OldSerial last) s = refl
+allows_none (refusal.TooLarge sum) s = refl
+allows_none (refusal.Spent counter) s = refl
+allows_none (refusal.CutByCounter events counter) s = refl
+allows_none (refusal.CutByMemory events) s = refl
+allows_none refusal.Reply s = refl
+allows_none refusal.NoMemory s = refl
+
+tells_none : (a : Answer) → IsShort a → answer_allow a ≡ []
+tells_none (Shown text) s = absurd s
+tells_none (Mutated acted) s = refl
+tells_none Done s = refl
+tells_none Refreshed s = refl
+tells_none (Settled counts) s = refl
+tells_none (Refused r) s = allows_none r s
+
+-- the reply of a short answer of small numbers is brief
+pub brief : (m : Message) (a : Answer) (r : HttpReply) → IsShort a → AreSmall a → r ≡ reply_to m a → IsBrief r
+brief m a r s n is = subst IsBrief (sym is) (body_short a s n, tells_none a s)
+
+-- ---- the whole reply
+
+first_or_rest : (P : ℕ → Type 0) (x s : ℕ) (rest : Bool) → P x → (IsTrue rest → P s) → IsTrue (x == s || rest) → P s
+first_or_rest P x s rest here more h =
+    elim (eqb_tells x s) [
+      | inl e ↦ subst P e.1 here
+      | inr e ↦ more (subst (λ t. IsTrue (t || rest)) e.0 h)
+    ]
+
+line_short : (s : ℕ) → IsTrue (is_named s) → length (status_line s) ≤ 64
+unfolding phrase_of
+line_short s named =
+    let P : ℕ → Type 0 = λ n. length (status_line n) ≤ 64 in
+    first_or_rest P 200 s _ (omega arith) (λ h. first_or_rest P 204 s _ (omega arith) (λ h. first_or_rest P 400 s _ (omega arith) (λ h.
+    first_or_rest P 404 s _ (omega arith) (λ h. first_or_rest P 405 s _ (omega arith) (λ h. first_or_rest P 409 s _ (omega arith) (λ h.
+    first_or_rest P 413 s _ (omega arith) (λ h. first_or_rest P 431 s _ (omega arith) (λ h. first_or_rest P 500 s _ (omega arith) (λ h.
+    first_or_rest P 501 s _ (omega arith) (λ h. first_or_rest P 503 s _ (omega arith) (λ h. first_or_rest P 507 s false (omega arith) (λ h. cc) h) h) h) h) h) h) h) h) h) h) h) named
+
+content_short : (s : ℕ) (body : List ℕ) → length body < 2 ^ 64 → length (content_lines s body) ≤ 80
+content_short s body h =
+    let n = decimal (length body) in
+    let M : Bool → Type 0 = λ t. length (if t then [] else codes "Content-Type: application/json\r\nContent-Length: " ++ (n ++ codes "\r\n")) ≤ 80 in
+    elim (s == 204) as M [
+      | true ↦ omega arith
+      | false ↦ omega (arith, length-append (codes "Content-Type: application/json\r\nContent-Length: ") (n ++ codes "\r\n"), length-append n (codes "\r\n"), short_decimal (length body) h)
+    ]
+
+allow_short : (s : ℕ) → length (allow_line s []) ≤ 9
+allow_short s = elim (s == 405) as (λ t. length (if t then codes "Allow: " ++ ([] ++ codes "\r\n") else []) ≤ 9) [ true ↦ omega arith | false ↦ omega arith ]
+
+close_short : (c : Bool) → length (close_line c) ≤ 20
+close_short true = omega arith
+close_short false = omega arith
+
+end_short : (r : HttpReply) → length (end_of r) ≤ 2 + length r.body
+end_short r =
+    elim (r.bare || r.status == 204) as (λ t. length (codes "\r\n" ++ (if t then [] else r.body)) ≤ 2 + length r.body) [
+      | true ↦ omega arith
+      | false ↦ omega (arith, length-append (codes "\r\n") r.body)
+    ]
+
+-- a brief reply fits the room that is taken for it
+pub reply_short : (r : HttpReply) → IsTrue (is_named r.status) → IsBrief r → length (reply_bytes r) ≤ 512
+reply_short r named b =
+    let z = close_line r.close ++ end_of r in
+    let y = allow_line r.status r.allow ++ z in
+    let x = content_lines r.status r.body ++ y in
+    let none : length (allow_line r.status r.allow) ≤ 9 = subst (λ l. length (allow_line r.status l) ≤ 9) (sym b.1) (allow_short r.status) in
+    omega (
+      arith,
+      length-append (status_line r.status) x,
+      length-append (content_lines r.status r.body) y,
+      length-append (allow_line r.status r.allow) z,
+      length-append (close_line r.close) (end_of r),
+      line_short r.status named,
+      content_short r.status r.body (omega (arith, b.0)),
+      none,
+      close_short r.close,
+      end_short r,
+      b.0,
+    )
+
+-- an answer that is there has what follows of it
+if_ok : {T E : Type 0} (P Q : T → Type 0) (r : Result T E) → ((x : T) → P x → Q x) → IfOk r P → IfOk r Q
+if_ok P Q (Ok x) f h = f x h
+if_ok P Q (Err e) f h = tt
+
+pub brief_if : {E : Type 0} (m : Message) (a : Answer) (r : Result HttpReply E) → IsShort a → AreSmall a → IfOk r (λ x. x ≡ reply_to m a) → IfOk r IsBrief
+brief_if m a r s n h = if_ok (λ x. x ≡ reply_to m a) IsBrief r (λ x is. brief m a x s n is) h

@@ -1,0 +1,3 @@
+pub mod Said
+pub mod Serving
+pub mod Brevity

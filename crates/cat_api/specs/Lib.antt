@@ -1,0 +1,4 @@
+pub mod Deeds
+pub mod Wire
+pub mod Answering
+pub mod Room

@@ -1,0 +1,157 @@
+//! The answer to one message.
+ghost use Rattle.std.specs.Prelude.{◌≡◌, ◌≢◌, IfOk, OnOk, OnErr, IsErr, IsTrue};
+ghost use Rattle.cat_api.specs.Deeds as deeds;
+ghost use Rattle.cat_api.specs.Room.{IsBrief, IsBriefTo, IsBriefBy};
+ghost use Rattle.cat_http.specs.Reply.{is_named};
+ghost use Rattle.cat_desk.specs.Deed.{deed};
+ghost use Rattle.cat_api.specs.Answering.{ActsBy, AsksBy, Carries, Answers, Lacks};
+ghost use Rattle.cat_requests.specs.Answers as spec;
+ghost use Rattle.cat_requests.specs.Requests.{request_of as asked_for};
+
+use crate::kind::{Kind, act_answer, lacks_memory};
+use crate::room::numbers_fit;
+use cat_desk::command::{Asked, Command};
+use cat_desk::desk::Desk;
+use cat_http::body::Bytes;
+use cat_http::message::Message;
+use cat_http::reply::HttpReply;
+use cat_query::ask::Ask;
+use cat_requests::answer::{Answer, ROOM, reply_to};
+use cat_requests::refusal::Refusal;
+use cat_requests::request::{Request, request_of};
+use std::alloc::{AllocError, Global};
+
+// Gives a command to the desk. The room for the reply is taken first.
+fn act<F: Drop, S: Drop, D: Desk<F, S>>(
+    alloc: Global,
+    desk: &mut D,
+    command: Command<F, S>,
+    kind: Kind,
+    message: &Message,
+) -> Result<HttpReply, AllocError>
+    ensures brief { IfOk result IsBrief }
+    ensures ok { IfOk result (λ r. ActsBy D.acts desk.old desk.new (deed D.order D.stitch_order command) kind message.now r) }
+    ensures err { OnErr result (Lacks D.acts D.asks desk.old desk.new) }
+{
+    let body = Vec::with_capacity(alloc, ROOM)?;
+    let reply = desk.act(alloc, command);
+    if lacks_memory(&reply) {
+        return Err(AllocError);
+    }
+    let answer = act_answer(kind, &reply);
+    numbers_fit(&answer);
+    reply_to(alloc, body, message, answer)
+}
+
+// The answer to a question, by what the desk says and what it appended; none for want of memory.
+fn asked_answer(asked: Asked, text: Vec<u8>) -> Result<Answer, AllocError>
+    ensures ok { IfOk result (λ a. a ≡ deeds.asked_answer asked text.items) }
+    ensures some { OnOk result (asked ≢ Asked.NoMemory) }
+{
+    match asked {
+        Asked::Written => Ok(Answer::Shown(Bytes::from_vec(text))),
+        Asked::NotFound => Ok(Answer::Refused(Refusal::Entity)),
+        Asked::NoFacet => Ok(Answer::Refused(Refusal::Facet)),
+        Asked::NoMemory => Err(AllocError),
+    }
+}
+
+// Asks the desk.
+fn ask<F: Drop, S: Drop, D: Desk<F, S>>(
+    alloc: Global,
+    desk: &mut D,
+    ask: &Ask,
+    message: &Message,
+) -> Result<HttpReply, AllocError>
+    ensures ok { IfOk result (λ r. AsksBy D.asks desk.old desk.new ask.now message.now r) }
+    ensures err { OnErr result (Lacks D.acts D.asks desk.old desk.new) }
+{
+    let mut text = Vec::new(alloc);
+    let asked = desk.ask(alloc, ask, &mut text);
+    let answer = asked_answer(asked, text)?;
+    reply_to(alloc, Vec::new(alloc), message, answer)
+}
+
+// Carries out a request.
+fn carry_out<F: Drop, S: Drop, D: Desk<F, S>>(
+    alloc: Global,
+    desk: &mut D,
+    request: Request,
+    message: &Message,
+) -> Result<HttpReply, AllocError>
+    ensures brief { IfOk result (IsBriefTo request) }
+    ensures ok { IfOk result (λ r. Carries D.acts D.asks desk.old desk.new request message.now r) }
+    ensures err { OnErr result (Lacks D.acts D.asks desk.old desk.new) }
+{
+    match request {
+        Request::Mutate(provider, mutation) => act(
+            alloc,
+            desk,
+            Command::Mutate(provider, mutation),
+            Kind::Mutation,
+            message,
+        ),
+        Request::ShelfPut(name, text) => act(
+            alloc,
+            desk,
+            Command::ShelfPut(name, text),
+            Kind::Shelving,
+            message,
+        ),
+        Request::ShelfDrop(name) => {
+            act(
+                alloc,
+                desk,
+                Command::ShelfDrop(name),
+                Kind::Shelving,
+                message,
+            )
+        }
+        Request::Refresh(reference) => act(
+            alloc,
+            desk,
+            Command::Refresh(reference),
+            Kind::Refreshing,
+            message,
+        ),
+        Request::Forget(number) => act(
+            alloc,
+            desk,
+            Command::ForgetNumber(number),
+            Kind::Forgetting,
+            message,
+        ),
+        Request::Settle => act(alloc, desk, Command::Settle, Kind::Settling, message),
+        Request::Ask(question) => ask(alloc, desk, &question, message),
+    }
+}
+
+// The reply to a message that is refused; none for want of memory.
+fn refused(alloc: Global, message: &Message, refusal: Refusal) -> Result<HttpReply, AllocError>
+    ensures ok { IfOk result (λ r. r ≡ spec.reply_to message.now (Answer.Refused refusal)) }
+    ensures memory { refusal ≡ Refusal.NoMemory → IsErr result }
+{
+    if let Refusal::NoMemory = refusal {
+        return Err(AllocError);
+    }
+    reply_to(alloc, Vec::new(alloc), message, Answer::Refused(refusal))
+}
+
+/// Answers a message: carries out at the desk what it asks for, or says why it is refused.
+///
+/// `Err` is want of memory, and the desk has done nothing: the room for the reply to a command is taken before the desk acts.
+pub fn answer<F: Drop, S: Drop, D: Desk<F, S>>(
+    alloc: Global,
+    desk: &mut D,
+    message: &Message,
+) -> Result<HttpReply, AllocError>
+    ensures ok { IfOk result (λ r. Answers D.acts D.asks desk.old desk.new (asked_for message.now) message.now r) }
+    ensures named { IfOk result (λ r. IsTrue (is_named r.status)) }
+    ensures brief { IfOk result (IsBriefBy (asked_for message.now)) }
+    ensures err { OnErr result (Lacks D.acts D.asks desk.old desk.new) }
+{
+    match request_of(alloc, message) {
+        Ok(request) => carry_out(alloc, desk, request, message),
+        Err(refusal) => refused(alloc, message, refusal),
+    }
+}

@@ -1,0 +1,3 @@
+pub mod Deed
+pub mod Acts
+pub mod Asks

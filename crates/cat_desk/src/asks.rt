@@ -1,0 +1,95 @@
+//! Questions to a catalogue, at a moment.
+ghost use Rattle.std.specs.Prelude.{◌≡◌, ◌≢◌, ◌++◌, List, ℕ, option_map};
+ghost use Rattle.cat_desk.specs.Asks.{IsAnswer, written_as};
+ghost use Rattle.cat_model.specs.Reply.{is_quiet};
+ghost use Rattle.cat_replies.specs.Asks.{AskFault, ask_text, document_numbered, text_or};
+
+use crate::command::Asked;
+use cat_core::catalogue::Catalogue;
+use cat_hold::layers::Layers;
+use cat_query::answers::{push_facets, push_list, push_many, push_page};
+use cat_query::ask::Ask;
+use cat_query::facets::FacetFault;
+use cat_replies::events::{push_counts, push_quiet};
+use cat_replies::lists::{push_conflicts, push_document, push_failures, push_orphans};
+use cat_types::node::Node;
+use std::alloc::{AllocError, Global};
+
+/// Answers a question to a catalogue at this moment. Only what is answered `Written` changes `out`, by appending the answer.
+pub fn write_ask<L: Layers>(
+    alloc: Global,
+    catalogue: &Catalogue<L>,
+    ask: &Ask,
+    now: u64,
+    out: &mut Vec<u8>,
+) -> Asked
+    ensures answer { (text : List ℕ) × (out.new.items ≡ out.old.items ++ text) × IsAnswer (ask_text ask.now now catalogue.now.state) result text }
+    ensures same { result ≢ Asked.Written → out.new.items ≡ out.old.items }
+{
+    let state = catalogue.view();
+    match ask {
+        Ask::Get(reference) => document(alloc, catalogue.get(reference), out),
+        Ask::Number(number) => numbered(alloc, catalogue, *number, out),
+        Ask::List(query) => written(push_list(alloc, out, &state.documents, query)),
+        Ask::Page(query) => written(push_page(alloc, out, &state.documents, query)),
+        Ask::Facets(query) => match push_facets(alloc, out, &state.documents, query) {
+            Ok(()) => Asked::Written,
+            Err(FacetFault::NoFacet) => Asked::NoFacet,
+            Err(FacetFault::NoMemory) => Asked::NoMemory,
+        },
+        Ask::Many(references, fields) => written(push_many(
+            alloc,
+            out,
+            &state.documents,
+            references.as_slice(),
+            fields,
+        )),
+        Ask::Conflicts => written(push_conflicts(alloc, out, state)),
+        Ask::Failed => written(push_failures(alloc, out, &state.records)),
+        Ask::Orphans => written(push_orphans(alloc, out, &state.orphans)),
+        Ask::State => written(push_counts(out, catalogue.state(now))),
+        Ask::Quiet => written(push_quiet(out, is_quiet(catalogue, now))),
+    }
+}
+
+fn written(pushed: Result<(), AllocError>) -> Asked
+    ensures { result ≡ written_as pushed }
+{
+    match pushed {
+        Ok(()) => Asked::Written,
+        Err(_) => Asked::NoMemory,
+    }
+}
+
+// Appends the document, if there is one.
+fn document(alloc: Global, document: Option<&Node>, out: &mut Vec<u8>) -> Asked
+    ensures answer { (text : List ℕ) × (out.new.items ≡ out.old.items ++ text) × IsAnswer (text_or AskFault.not_found (option_map (λ x. x.now) document.entry)) result text }
+    ensures same { result ≢ Asked.Written → out.new.items ≡ out.old.items }
+{
+    match document {
+        Some(document) => written(push_document(alloc, out, document.tree())),
+        None => Asked::NotFound,
+    }
+}
+
+// Appends the document of what has this number, if there is one.
+fn numbered<L: Layers>(
+    alloc: Global,
+    catalogue: &Catalogue<L>,
+    number: u64,
+    out: &mut Vec<u8>,
+) -> Asked
+    ensures answer { (text : List ℕ) × (out.new.items ≡ out.old.items ++ text) × IsAnswer (text_or AskFault.not_found (document_numbered number catalogue.now.state)) result text }
+    ensures same { result ≢ Asked.Written → out.new.items ≡ out.old.items }
+{
+    match catalogue.ref_at(number) {
+        Some(reference) => document(alloc, catalogue.get(reference), out),
+        None => Asked::NotFound,
+    }
+}
+
+fn is_quiet<L: Layers>(catalogue: &Catalogue<L>, now: u64) -> bool
+    ensures { result ≡ is_quiet catalogue.now.state now }
+{
+    catalogue.quiet(now)
+}

@@ -1,0 +1,7 @@
+use Rattle.std.specs.Prelude.{refl}
+use Rattle.cat_examples.proofs.Computing.{on_literals}
+use Rattle.cat_examples.proofs.questions.filters_are_alternatives.Goals as goal
+
+pub returns : goal.returns
+unfolding on_literals
+returns c = record { said = refl }

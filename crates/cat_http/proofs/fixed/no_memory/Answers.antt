@@ -1,0 +1,14 @@
+use Rattle.cat_http.proofs.FixedLemmas.{bare_close, whole_close, bare_open, whole_open}
+use Rattle.cat_http.proofs.fixed.no_memory.Goals as goal
+
+pub returns-in-true-true : goal.returns-in-true-true
+returns-in-true-true c = rw (c.in-true-true.is-0, c.in-true-true.is-1) bare_close
+
+pub returns-in-true-false : goal.returns-in-true-false
+returns-in-true-false c = rw (c.in-true-false.is-0, c.in-true-false.is-1) whole_close
+
+pub returns-in-false-true : goal.returns-in-false-true
+returns-in-false-true c = rw (c.in-false-true.is-0, c.in-false-true.is-1) bare_open
+
+pub returns-in-false-false : goal.returns-in-false-false
+returns-in-false-false c = rw (c.in-false-false.is-0, c.in-false-false.is-1) whole_open

@@ -1,0 +1,6 @@
+pub mod Lines
+pub mod Head
+pub mod Message
+pub mod Reply
+pub mod Errors
+pub mod Found

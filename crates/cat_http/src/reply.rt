@@ -1,0 +1,206 @@
+//! The bytes of replies.
+ghost use Rattle.std.specs.Prelude.{◌≡◌, ◌≤◌, ◌<◌, ◌+◌, ◌++◌, [], if◌then◌else◌, ◌==◌, ◌||◌, codes, length, flat_map, IsTrue, OnOk, OnErr, is_ok, vec_len, vec_capacity};
+ghost use Rattle.http.specs.StatusCode.{code_digits};
+ghost use Rattle.cat_http.specs.Reply.{is_named, phrase_of, joined, status_line, content_lines, allow_line, close_line, end_of, reply_bytes, Adds};
+
+use crate::body::{Bytes, Texts};
+use cat_tree::text::Text;
+use http::StatusCode;
+use itoa::Buffer;
+use std::alloc::AllocError;
+
+/// A reply to a message.
+#[derive(Drop)]
+pub struct HttpReply {
+    /// The status.
+    pub status: u16,
+    /// The body, which is left out for status 204.
+    pub body: Bytes,
+    /// The methods that the path has, which are written for status 405.
+    pub allow: Texts,
+    /// Whether the connection ends after it.
+    pub close: bool,
+    /// Whether it answers HEAD.
+    pub bare: bool,
+}
+
+fn put(out: &mut Vec<u8>, bytes: &[u8]) -> Result<(), AllocError>
+    ensures { Adds out.old.items out.new.items (vec_capacity out.old) (vec_capacity out.new)
+        (is_ok result) bytes.now }
+{
+    out.extend_from_slice(bytes)
+}
+
+fn put_two(out: &mut Vec<u8>, first: &[u8], second: &[u8]) -> Result<(), AllocError>
+    ensures { Adds out.old.items out.new.items (vec_capacity out.old) (vec_capacity out.new)
+        (is_ok result) (first.now ++ second.now) }
+{
+    put(out, first)?;
+    put(out, second)
+}
+
+fn put_three(out: &mut Vec<u8>, first: &[u8], second: &[u8], third: &[u8]) -> Result<(), AllocError>
+    ensures { Adds out.old.items out.new.items (vec_capacity out.old) (vec_capacity out.new)
+        (is_ok result) (first.now ++ (second.now ++ third.now)) }
+{
+    put(out, first)?;
+    put_two(out, second, third)
+}
+
+fn code_of(status: u16) -> &'static str
+    requires { IsTrue (is_named status) }
+    ensures { result.now ≡ code_digits status }
+{
+    match StatusCode::from_u16(status) {
+        Ok(code) => code.as_str(),
+        Err(_) => unreachable!(),
+    }
+}
+
+fn phrase(status: u16) -> &'static str
+    requires { IsTrue (is_named status) }
+    ensures { result.now ≡ phrase_of status }
+{
+    match StatusCode::from_u16(status) {
+        Ok(code) => code.canonical_reason().unwrap_or(""),
+        Err(_) => unreachable!(),
+    }
+}
+
+fn put_status(out: &mut Vec<u8>, status: u16) -> Result<(), AllocError>
+    requires { IsTrue (is_named status) }
+    ensures { Adds out.old.items out.new.items (vec_capacity out.old) (vec_capacity out.new)
+        (is_ok result) (status_line status) }
+{
+    put_two(out, b"HTTP/1.1 ", code_of(status).as_bytes())?;
+    put_three(out, b" ", phrase(status).as_bytes(), b"\r\n")
+}
+
+fn put_content(out: &mut Vec<u8>, status: u16, body: &[u8]) -> Result<(), AllocError>
+    ensures { Adds out.old.items out.new.items (vec_capacity out.old) (vec_capacity out.new)
+        (is_ok result) (content_lines status body.now) }
+{
+    if status == 204 {
+        return put(out, b"");
+    }
+    let mut buffer = Buffer::new();
+    let length = buffer.format(body.len()).as_bytes();
+    put_three(
+        out,
+        b"Content-Type: application/json\r\nContent-Length: ",
+        length,
+        b"\r\n",
+    )
+}
+
+fn put_methods(out: &mut Vec<u8>, methods: &[Text]) -> Result<(), AllocError>
+    ensures { Adds out.old.items out.new.items (vec_capacity out.old) (vec_capacity out.new)
+        (is_ok result) (flat_map (λ other. codes ", " ++ other) methods.now) }
+{
+    for method in methods {
+        match put_two(out, b", ", method.as_str().as_bytes()) {
+            Ok(()) => {}
+            Err(error) => return Err(error),
+        }
+    }
+    Ok(())
+}
+
+fn put_joined(out: &mut Vec<u8>, methods: &[Text]) -> Result<(), AllocError>
+    ensures { Adds out.old.items out.new.items (vec_capacity out.old) (vec_capacity out.new)
+        (is_ok result) (joined methods.now) }
+{
+    if methods.is_empty() {
+        return put(out, b"");
+    }
+    put(out, methods[0].as_str().as_bytes())?;
+    put_methods(out, &methods[1..])
+}
+
+fn put_allow(out: &mut Vec<u8>, status: u16, methods: &[Text]) -> Result<(), AllocError>
+    ensures { Adds out.old.items out.new.items (vec_capacity out.old) (vec_capacity out.new)
+        (is_ok result) (allow_line status methods.now) }
+{
+    if status != 405 {
+        return put(out, b"");
+    }
+    put(out, b"Allow: ")?;
+    put_joined(out, methods)?;
+    put(out, b"\r\n")
+}
+
+fn put_close(out: &mut Vec<u8>, close: bool) -> Result<(), AllocError>
+    ensures { Adds out.old.items out.new.items (vec_capacity out.old) (vec_capacity out.new)
+        (is_ok result) (close_line close) }
+{
+    if close {
+        put(out, b"Connection: close\r\n")
+    } else {
+        put(out, b"")
+    }
+}
+
+fn put_end(out: &mut Vec<u8>, reply: &HttpReply) -> Result<(), AllocError>
+    ensures { Adds out.old.items out.new.items (vec_capacity out.old) (vec_capacity out.new)
+        (is_ok result) (end_of reply.now) }
+{
+    if reply.bare || reply.status == 204 {
+        put_two(out, b"\r\n", b"")
+    } else {
+        put_two(out, b"\r\n", reply.body.as_slice())
+    }
+}
+
+fn put_last_lines(out: &mut Vec<u8>, reply: &HttpReply) -> Result<(), AllocError>
+    ensures { Adds out.old.items out.new.items (vec_capacity out.old) (vec_capacity out.new)
+        (is_ok result) (close_line reply.now.close ++ end_of reply.now) }
+{
+    put_close(out, reply.close)?;
+    put_end(out, reply)
+}
+
+fn put_from_allow(out: &mut Vec<u8>, reply: &HttpReply) -> Result<(), AllocError>
+    ensures { Adds out.old.items out.new.items (vec_capacity out.old) (vec_capacity out.new)
+        (is_ok result) (allow_line reply.now.status reply.now.allow
+        ++ (close_line reply.now.close ++ end_of reply.now)) }
+{
+    put_allow(out, reply.status, reply.allow.as_slice())?;
+    put_last_lines(out, reply)
+}
+
+fn put_from_content(out: &mut Vec<u8>, reply: &HttpReply) -> Result<(), AllocError>
+    ensures { Adds out.old.items out.new.items (vec_capacity out.old) (vec_capacity out.new)
+        (is_ok result) (content_lines reply.now.status reply.now.body
+        ++ (allow_line reply.now.status reply.now.allow
+        ++ (close_line reply.now.close ++ end_of reply.now))) }
+{
+    put_content(out, reply.status, reply.body.as_slice())?;
+    put_from_allow(out, reply)
+}
+
+fn put_reply(out: &mut Vec<u8>, reply: &HttpReply) -> Result<(), AllocError>
+    requires { IsTrue (is_named reply.now.status) }
+    ensures { Adds out.old.items out.new.items (vec_capacity out.old) (vec_capacity out.new)
+        (is_ok result) (reply_bytes reply.now) }
+{
+    put_status(out, reply.status)?;
+    put_from_content(out, reply)
+}
+
+/// Appends the bytes of the reply. Where memory is wanting, `out` stays as it was.
+pub fn write_reply(reply: &HttpReply, out: &mut Vec<u8>) -> Result<(), AllocError>
+    requires named { IsTrue (is_named reply.now.status) }
+    ensures ok { OnOk result (out.new.items ≡ out.old.items ++ reply_bytes reply.now) }
+    ensures err { OnErr result (out.new.items ≡ out.old.items) }
+    ensures room { OnErr result
+        (vec_capacity out.old < vec_len out.old + length (reply_bytes reply.now)) }
+{
+    let before = out.len();
+    match put_reply(out, reply) {
+        Ok(()) => Ok(()),
+        Err(error) => {
+            out.truncate(before);
+            Err(error)
+        }
+    }
+}

@@ -1,4 +1,0 @@
-pub mod Words
-pub mod Arguments
-pub mod Lines
-pub mod Ready

@@ -1,0 +1,15 @@
+-- The words of errors.
+use Rattle.std.proofs.Common.{◌≡◌, ℕ, List, [], ◌∷◌, ◌++◌, refl, ap, ◌∙◌, append_assoc, codes}
+use Rattle.std.specs.Fmt.{decimal}
+use Rattle.cat_http.specs.Errors.{error_body}
+use Rattle.cat_replies.specs.Line.{joined}
+
+joined_onto : (ts : List (List ℕ)) (rest : List (List ℕ)) → joined ts ++ joined rest ≡ joined (ts ++ rest)
+joined_onto [] rest = refl
+joined_onto (t ∷ ts) rest = append_assoc t (joined ts) (joined rest) ∙ ap (λ l. t ++ l) (joined_onto ts rest)
+
+-- the body of an error is its parts, one after the other
+pub error_parts : (status : ℕ) (a b c d : List ℕ) → error_body status (joined (a ∷ b ∷ c ∷ d ∷ []))
+    ≡ joined (codes "{\"error\":{\"message\":\"" ∷ a ∷ b ∷ c ∷ d ∷ codes "\"},\"response\":{\"statusCode\":" ∷ decimal status ∷ codes "}}" ∷ [])
+error_parts status a b c d =
+    ap (λ l. codes "{\"error\":{\"message\":\"" ++ l) (joined_onto (a ∷ b ∷ c ∷ d ∷ []) (codes "\"},\"response\":{\"statusCode\":" ∷ decimal status ∷ codes "}}" ∷ []))

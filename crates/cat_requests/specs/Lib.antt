@@ -1,0 +1,6 @@
+pub mod Uids
+pub mod Paths
+pub mod Refusals
+pub mod Bodies
+pub mod Requests
+pub mod Answers

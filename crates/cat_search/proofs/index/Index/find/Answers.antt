@@ -1,0 +1,23 @@
+use Rattle.std.proofs.Common.{ap, sym, ◌∙◌}
+use Rattle.std.specs.FinMap.Entries.{is_sorted}
+use Rattle.cat_table.specs.Table.{keys, text_cmp}
+use Rattle.cat_search.specs.Index.{found}
+use Rattle.cat_search.proofs.Finds.{all_found, found_keys}
+use Rattle.cat_search.proofs.index.Index.find.Goals as goal
+
+pub returns-then-accepts_all : goal.returns-then-accepts_all
+returns-then-accepts_all c =
+    c.into_vec.ensures
+    ∙ c.in_ok-keys.ensures
+    ∙ all_found c.self.inside.documents c.args.filters.now (sym c.accepts_all.ensures ∙ c.if-accepts_all.true)
+    ∙ ap (found c.args.filters.now) c.self.view_is
+
+pub returns : goal.returns
+returns c =
+    c.into_vec-2.ensures
+    ∙ c.in_ok-keys-2.ensures
+    ∙ ap keys c.in_ok-found.ensures
+    ∙ found_keys c.self.inside.documents c.self.inside.lists c.args.filters.now c.self.invariant c.in_order.ensures
+    (ap (is_sorted text_cmp) (sym c.in_ok-found.ensures) ∙ c.in_order-2.ensures)
+    (sym c.accepts_all.ensures ∙ c.if-accepts_all.false)
+    ∙ ap (found c.args.filters.now) c.self.view_is

@@ -1,0 +1,123 @@
+-- The references of documents by term, and those that filters find.
+use Rattle.std.specs.Prelude.{◌≡◌, ℕ, List, [], ◌∷◌, length, map, Bool, ◌==◌, ◌||◌, if◌then◌else◌, is_some, option_map, unwrap_or}
+use Rattle.std.specs.List.{filter, filter_map, list_any, list_all}
+use Rattle.std.specs.Ordering.{eq_by_cmp}
+use Rattle.std.specs.declared.cmp.Ordering.{Ordering}
+use Rattle.cat_tree.specs.Data.{Data}
+use Rattle.cat_table.specs.Pairs.{pair_cmp}
+use Rattle.cat_table.specs.Places.{first_from}
+use Rattle.cat_table.specs.Rows.{without}
+use Rattle.cat_table.specs.Table.{Map, find, get, keys, put, puts, text_cmp}
+use Rattle.cat_search.specs.Rows.{folded}
+use Rattle.cat_search.specs.Filter.{matching}
+use Rattle.cat_search.specs.Terms.{Term, condition_term, document_terms}
+use Rattle.cat_search.specs.declared.condition.Condition.{Condition}
+
+-- references in order, each once
+abbrev pub Set : Type 0
+Set = Map (Unit {0})
+
+-- the reference is among them
+abbrev pub has : Set → List ℕ → Bool
+has s r = is_some (get s r)
+
+-- the references under each term
+abbrev pub Lists : Type 0
+Lists = List (Term × Set)
+
+-- terms are ordered by key, and then by what stands behind it
+abbrev pub term_cmp : Term → Term → Ordering
+term_cmp = pair_cmp text_cmp text_cmp
+
+-- the references under a term
+abbrev pub set_at : Lists → Term → Set
+set_at lists t = unwrap_or (find term_cmp t lists) []
+
+-- the terms of a reference's document, if it has one
+abbrev pub terms_at : Map Data → List ℕ → List Term
+terms_at docs r = unwrap_or (option_map document_terms (get docs r)) []
+
+-- one of the terms is this one
+abbrev pub has_term : Term → List Term → Bool
+has_term t ts = list_any (eq_by_cmp term_cmp t) ts
+
+-- a reference stands under a term exactly where its document has the term
+abbrev pub AreLists : Map Data → Lists → Type 0
+AreLists docs lists = (t : Term) (r : List ℕ) → has (set_at lists t) r ≡ has_term t (terms_at docs r)
+
+-- ---- changes
+
+-- these references under the term, which goes where there are none
+abbrev pub with_set : Term → Set → Lists → Lists
+with_set t s lists = if length s == 0 then without term_cmp t lists else put term_cmp t s lists
+
+-- the reference comes under the term
+abbrev pub entered : List ℕ → Term → Lists → Lists
+entered r t lists = put term_cmp t (put text_cmp r (tt {0}) (set_at lists t)) lists
+
+-- the reference comes under each of the terms
+abbrev pub entered_all : List ℕ → List Term → Lists → Lists
+entered_all r [] lists = lists
+entered_all r (t ∷ ts) lists = entered_all r ts (entered r t lists)
+
+-- the reference goes from under the term
+abbrev pub struck : List ℕ → Term → Lists → Lists
+struck r t lists = with_set t (without text_cmp r (set_at lists t)) lists
+
+-- the reference goes from under each of the terms
+abbrev pub struck_all : List ℕ → List Term → Lists → Lists
+struck_all r [] lists = lists
+struck_all r (t ∷ ts) lists = struck_all r ts (struck r t lists)
+
+-- ---- finding
+
+-- the references of either
+abbrev pub union : Set → Set → Set
+union s u = puts text_cmp u s
+
+-- the reference is in each of the sets
+abbrev pub in_all : List Set → List ℕ → Bool
+in_all ss r = list_all (λ s. has s r) ss
+
+-- the references that are in each of the sets
+abbrev pub common : List Set → Set
+common [] = []
+common (s ∷ ss) = filter (λ e. in_all (s ∷ ss) e.0) s
+
+-- the references at a key
+abbrev pub at_key : Map Set → List ℕ → Set
+at_key m key = unwrap_or (get m (folded key)) []
+
+-- the references under the condition are at its key, too
+abbrev pub with_condition : Lists → Condition → Map Set → Map Set
+with_condition lists c m = put text_cmp (folded c.key) (union (set_at lists (condition_term c)) (at_key m c.key)) m
+
+-- for each key of the conditions, the references under one of those with the key
+abbrev pub by_key : Lists → List Condition → Map Set
+by_key lists [] = []
+by_key lists (c ∷ cs) = with_condition lists c (by_key lists cs)
+
+-- the references that are found for each key of the conditions
+abbrev pub accepted : Lists → List Condition → Set
+accepted lists cs = common (map (λ c. at_key (by_key lists cs) c.key) cs)
+
+-- these references, and those that are found for one of the filters
+abbrev pub all_accepted : Lists → List (List Condition) → Set → Set
+all_accepted lists [] s = s
+all_accepted lists (cs ∷ fs) s = all_accepted lists fs (union s (accepted lists cs))
+
+-- the references of the documents that one of the filters accepts, in order
+abbrev pub found : List (List Condition) → Map Data → List (List ℕ)
+found fs docs = keys (matching fs docs)
+
+-- the documents of the references that are in a set
+abbrev pub documents_of : Map Data → Set → Map Data
+documents_of docs s = filter_map (λ e. first_from text_cmp e.0 docs) s
+
+-- a filter has no conditions
+abbrev pub has_free : List (List Condition) → Bool
+has_free fs = list_any (λ cs. length cs == 0) fs
+
+-- there is no filter, or one without conditions
+abbrev pub accepts_all : List (List Condition) → Bool
+accepts_all fs = length fs == 0 || has_free fs

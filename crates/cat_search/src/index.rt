@@ -1,0 +1,413 @@
+//! Documents by reference, with the references under each term of their search rows.
+ghost use Rattle.std.specs.Prelude.{◌≡◌, [], IfOk, OnOk, OnErr, is_ok, length, map, option_map, slice_get, unwrap_or, if◌then◌else◌};
+ghost use Rattle.std.specs.Arc.{arc_value};
+ghost use Rattle.cat_tree.specs.View.{data_of};
+ghost use Rattle.cat_table.specs.Rows.{without};
+ghost use Rattle.cat_table.specs.Table.{get, put, text_cmp};
+ghost use Rattle.cat_search.specs.Filter.{matching};
+ghost use Rattle.cat_search.specs.Index.{accepted, accepts_all, all_accepted, at_key, by_key, documents_of, entered, entered_all, found, has_free, set_at, struck, struck_all, terms_at, union, with_condition, with_set};
+ghost use Rattle.cat_search.specs.Terms.{condition_term, document_terms};
+
+use crate::condition::{Condition, Filter};
+use crate::folded::lower;
+use crate::sets::{Set, common, union};
+use crate::terms::{Term, condition_term, document_terms};
+use cat_ref::reference::Ref;
+use cat_table::listing::Copied;
+use cat_table::map::Map;
+use cat_tree::text::Text;
+use cat_tree::tree::Tree;
+use cat_types::node::Node;
+use std::alloc::{AllocError, Global};
+use std::marker::Model;
+use std::sync::Arc;
+
+type Lists = Map<Term, Set>;
+
+/// Documents by reference, and for each term of their search rows the references of the documents that have it. Contracts
+/// see the documents alone, in order of reference. A copy shares all of it.
+#[derive(Drop)]
+pub struct Index {
+    documents: Map<Ref, Node>,
+    lists: Lists,
+}
+
+impl Model for Index {
+    ghost use Rattle.std.specs.Prelude.{ℕ, List};
+    ghost use Rattle.std.specs.Coded.{coded_list, coded×, coded_ℕ};
+    ghost use Rattle.cat_tree.specs.Data.{Data, data_code};
+
+    ghost Value = { List (List ℕ × Data) };
+
+    ghost coded = { coded_list (coded× (coded_list coded_ℕ) data_code) };
+
+    ghost use Rattle.cat_search.specs.Index.{AreLists};
+
+    ghost view = { λ a. a.documents };
+
+    ghost invariant = { λ a. AreLists a.documents a.lists };
+}
+
+impl Index {
+    /// No documents. Takes no memory.
+    pub fn empty() -> Index
+        ensures { result ≡ [] }
+    {
+        Index {
+            documents: Map::new(),
+            lists: Map::new(),
+        }
+    }
+
+    /// How many documents there are.
+    pub fn len(&self) -> usize
+        ensures { result ≡ length self.now }
+    {
+        self.documents.len()
+    }
+
+    /// Lends the document at a place in the order of the references, with its reference.
+    pub fn at(&self, place: usize) -> Option<&(Ref, Node)>
+        ensures { option_map (λ e. e.now) result ≡ slice_get self.now place }
+    {
+        self.documents.at(place)
+    }
+
+    /// Lends the document of a reference; none where there is none.
+    pub fn get(&self, reference: &Ref) -> Option<&Tree>
+        ensures { option_map (λ t. data_of t.now) result ≡ get self.now reference.now }
+    {
+        Some(self.documents.get(reference)?.tree())
+    }
+
+    /// A copy, which shares everything. Takes no memory.
+    pub fn share(&self) -> Result<Index, AllocError>
+        ensures { IfOk result (λ i. i ≡ self.now) }
+    {
+        Ok(Index {
+            documents: self.documents.share()?,
+            lists: self.lists.share()?,
+        })
+    }
+
+    /// Puts the document of a reference, in place of a former one. Where memory is wanted, the index is as before. Copies of
+    /// the index stay as they are.
+    pub fn put(&mut self, alloc: Global, reference: &Ref, document: &Node) -> Result<(), AllocError>
+        ensures { self.new ≡ (if is_ok result then put text_cmp reference.now document.now self.old else self.old) }
+    {
+        let mut lists = self.lists.share()?;
+        strike_former(alloc, &mut lists, &self.documents, reference)?;
+        enter_all(alloc, &mut lists, reference, document)?;
+        let mut documents = self.documents.share()?;
+        documents.put(alloc, reference.copy(alloc)?, document.duplicate(alloc)?)?;
+        *self = Index { documents, lists };
+        Ok(())
+    }
+
+    /// Removes the document of a reference, if there is one. Where memory is wanted, the index is as before. Copies of the
+    /// index stay as they are.
+    pub fn remove(&mut self, alloc: Global, reference: &Ref) -> Result<(), AllocError>
+        ensures { self.new ≡ (if is_ok result then without text_cmp reference.now self.old else self.old) }
+    {
+        let mut lists = self.lists.share()?;
+        strike_former(alloc, &mut lists, &self.documents, reference)?;
+        let mut documents = self.documents.share()?;
+        documents.remove(alloc, reference)?;
+        *self = Index { documents, lists };
+        Ok(())
+    }
+
+    /// The references of the documents that one of the filters accepts, in order; without a filter those of all documents.
+    pub fn find(&self, alloc: Global, filters: &[Filter]) -> Result<Vec<Ref>, AllocError>
+        ensures { IfOk result (λ v. v.items ≡ found filters.now self.now) }
+    {
+        if accepts_all(filters) {
+            return Ok(self.documents.keys(alloc)?.into_vec());
+        }
+        let found = all_accepted(alloc, &self.lists, filters)?;
+        self.documents.in_order();
+        found.in_order();
+        Ok(found.keys(alloc)?.into_vec())
+    }
+}
+
+impl Index {
+    /// Lends the documents that one of the filters accepts, with their references, in order; without a filter all of them.
+    pub fn matching(
+        &self,
+        alloc: Global,
+        filters: &[Filter],
+    ) -> Result<Vec<&(Ref, Node)>, AllocError>
+        ensures { IfOk result (λ v. map (λ e. e.now) v.items ≡ matching filters.now self.now) }
+    {
+        if accepts_all(filters) {
+            return all_entries(alloc, &self.documents);
+        }
+        let found = all_accepted(alloc, &self.lists, filters)?;
+        self.documents.in_order();
+        found.in_order();
+        documents_of(alloc, &self.documents, &found)
+    }
+}
+
+impl Copied for Index {
+    fn duplicate(&self, _alloc: Global) -> Result<Index, AllocError> {
+        self.share()
+    }
+}
+
+// ---- changes of the lists
+
+// The references under a term.
+fn set_at(lists: &Lists, term: &Term) -> Result<Set, AllocError>
+    ensures { IfOk result (λ s. s ≡ set_at lists.now term.now) }
+{
+    match lists.get(term) {
+        Some(set) => set.share(),
+        None => Ok(Map::new()),
+    }
+}
+
+// These references stand under the term from now on.
+fn put_set(alloc: Global, lists: &mut Lists, term: &Term, set: Set) -> Result<(), AllocError>
+    ensures { OnOk result (lists.new ≡ with_set term.now set lists.old) }
+{
+    if set.is_empty() {
+        return lists.remove(alloc, term);
+    }
+    let term = term.duplicate(alloc)?;
+    lists.put(alloc, term, set)
+}
+
+// The set with the reference of the entry.
+fn with_reference(
+    alloc: Global,
+    set: Set,
+    entry: &Arc<(Ref, ()), Global>,
+) -> Result<Set, AllocError>
+    ensures { IfOk result (λ s. s ≡ put text_cmp (arc_value entry.now).0 (tt {0}) set) }
+{
+    let mut set = set;
+    set.put_shared(alloc, Arc::try_clone(entry)?)?;
+    Ok(set)
+}
+
+// The reference of the entry comes under the term.
+fn enter(
+    alloc: Global,
+    lists: &mut Lists,
+    term: Term,
+    entry: &Arc<(Ref, ()), Global>,
+) -> Result<(), AllocError>
+    ensures { OnOk result (lists.new ≡ entered (arc_value entry.now).0 term lists.old) }
+{
+    let set = with_reference(alloc, set_at(lists, &term)?, entry)?;
+    lists.put(alloc, term, set)
+}
+
+// The reference comes under each term of the document.
+fn enter_all(
+    alloc: Global,
+    lists: &mut Lists,
+    reference: &Ref,
+    document: &Node,
+) -> Result<(), AllocError>
+    ensures { OnOk result (lists.new ≡ entered_all reference.now (document_terms document.now) lists.old) }
+{
+    let entry = Arc::new(alloc, (reference.copy(alloc)?, ()))?;
+    for term in document_terms(alloc, document.tree())? {
+        enter(alloc, lists, term, &entry)?;
+    }
+    Ok(())
+}
+
+fn strike(alloc: Global, lists: &mut Lists, term: &Term, reference: &Ref) -> Result<(), AllocError>
+    ensures { OnOk result (lists.new ≡ struck reference.now term.now lists.old) }
+{
+    let mut set = set_at(lists, term)?;
+    set.remove(alloc, reference)?;
+    put_set(alloc, lists, term, set)
+}
+
+fn strike_all(
+    alloc: Global,
+    lists: &mut Lists,
+    terms: &[Term],
+    reference: &Ref,
+) -> Result<(), AllocError>
+    ensures { OnOk result (lists.new ≡ struck_all reference.now terms.now lists.old) }
+{
+    for term in terms {
+        strike(alloc, lists, term, reference)?;
+    }
+    Ok(())
+}
+
+// The reference goes from under each term of the document that it has so far.
+fn strike_former(
+    alloc: Global,
+    lists: &mut Lists,
+    documents: &Map<Ref, Node>,
+    reference: &Ref,
+) -> Result<(), AllocError>
+    ensures { OnOk result (lists.new ≡ struck_all reference.now (terms_at documents.now reference.now) lists.old) }
+{
+    match documents.get(reference) {
+        Some(document) => {
+            let terms = document_terms(alloc, document.tree())?;
+            strike_all(alloc, lists, terms.as_slice(), reference)
+        }
+        None => Ok(()),
+    }
+}
+
+// ---- finding
+
+// Lends all documents with their references.
+fn all_entries(alloc: Global, documents: &Map<Ref, Node>) -> Result<Vec<&(Ref, Node)>, AllocError>
+    ensures { IfOk result (λ v. map (λ e. e.now) v.items ≡ documents.now) }
+{
+    let mut entries = Vec::with_capacity(alloc, documents.len())?;
+    for entry in documents.iter() {
+        entries.push(entry)?;
+    }
+    Ok(entries)
+}
+
+// Lends the documents of the references that were found.
+fn documents_of<'a>(
+    alloc: Global,
+    documents: &'a Map<Ref, Node>,
+    found: &Set,
+) -> Result<Vec<&'a (Ref, Node)>, AllocError>
+    ensures { IfOk result (λ v. map (λ e. e.now) v.items ≡ documents_of documents.now found.now) }
+{
+    let mut entries = Vec::with_capacity(alloc, found.len())?;
+    for (reference, _) in found.iter() {
+        if let Some(entry) = documents.first_from(reference) {
+            entries.push(entry)?;
+        }
+    }
+    Ok(entries)
+}
+
+// Whether there is no filter, or one without conditions.
+fn accepts_all(filters: &[Filter]) -> bool
+    ensures { result ≡ accepts_all filters.now }
+{
+    filters.is_empty() || has_free(filters)
+}
+
+fn has_free(filters: &[Filter]) -> bool
+    ensures { result ≡ has_free filters.now }
+{
+    filters.iter().any(|filter| filter.as_slice().is_empty())
+}
+
+// The references at a key in lower case.
+fn at_lower(keyed: &Map<Text, Set>, key: &Text) -> Result<Set, AllocError>
+    ensures { IfOk result (λ s. s ≡ unwrap_or (get keyed.now key.now) []) }
+{
+    match keyed.get(key) {
+        Some(set) => set.share(),
+        None => Ok(Map::new()),
+    }
+}
+
+// The references at a key.
+fn at_key(alloc: Global, keyed: &Map<Text, Set>, key: &Text) -> Result<Set, AllocError>
+    ensures { IfOk result (λ s. s ≡ at_key keyed.now key.now) }
+{
+    let key = lower(alloc, key.as_str())?;
+    at_lower(keyed, &key)
+}
+
+// The references under a condition.
+fn under(alloc: Global, lists: &Lists, condition: &Condition) -> Result<Set, AllocError>
+    ensures { IfOk result (λ s. s ≡ set_at lists.now (condition_term condition.now)) }
+{
+    let term = condition_term(alloc, condition)?;
+    set_at(lists, &term)
+}
+
+// The references under a condition, and those at its key.
+fn widened(
+    alloc: Global,
+    lists: &Lists,
+    condition: &Condition,
+    keyed: &Map<Text, Set>,
+) -> Result<Set, AllocError>
+    ensures { IfOk result (λ s. s ≡ union (set_at lists.now (condition_term condition.now)) (at_key keyed.now condition.now.key)) }
+{
+    let own = under(alloc, lists, condition)?;
+    let others = at_key(alloc, keyed, &condition.key)?;
+    union(alloc, &own, &others)
+}
+
+// The references under the condition are found at its key, too.
+fn add_key(
+    alloc: Global,
+    lists: &Lists,
+    condition: &Condition,
+    keyed: &mut Map<Text, Set>,
+) -> Result<(), AllocError>
+    ensures { OnOk result (keyed.new ≡ with_condition lists.now condition.now keyed.old) }
+{
+    let set = widened(alloc, lists, condition, keyed)?;
+    let key = lower(alloc, condition.key.as_str())?;
+    keyed.put(alloc, key, set)
+}
+
+// For each key of the conditions, the references under one of those with the key.
+fn by_key(
+    alloc: Global,
+    lists: &Lists,
+    conditions: &[Condition],
+) -> Result<Map<Text, Set>, AllocError>
+    ensures { IfOk result (λ m. m ≡ by_key lists.now conditions.now) }
+{
+    let mut keyed = Map::new();
+    let mut left = conditions.len();
+    while left > 0 {
+        left -= 1;
+        add_key(alloc, lists, &conditions[left], &mut keyed)?;
+    }
+    Ok(keyed)
+}
+
+// For each condition, the references at its key.
+fn at_keys(
+    alloc: Global,
+    keyed: &Map<Text, Set>,
+    conditions: &[Condition],
+) -> Result<Vec<Set>, AllocError>
+    ensures { IfOk result (λ v. v.items ≡ map (λ c. at_key keyed.now c.key) conditions.now) }
+{
+    let mut sets = Vec::new(alloc);
+    for condition in conditions {
+        sets.push(at_key(alloc, keyed, &condition.key)?)?;
+    }
+    Ok(sets)
+}
+
+// The references that are found for each key of the filter's conditions.
+fn accepted(alloc: Global, lists: &Lists, filter: &Filter) -> Result<Set, AllocError>
+    ensures { IfOk result (λ s. s ≡ accepted lists.now filter.now) }
+{
+    let conditions = filter.as_slice();
+    let keyed = by_key(alloc, lists, conditions)?;
+    let sets = at_keys(alloc, &keyed, conditions)?;
+    common(alloc, sets.as_slice())
+}
+
+// The references that are found for one of the filters.
+fn all_accepted(alloc: Global, lists: &Lists, filters: &[Filter]) -> Result<Set, AllocError>
+    ensures { IfOk result (λ s. s ≡ all_accepted lists.now filters.now []) }
+{
+    let mut found = Map::new();
+    for filter in filters {
+        let accepted = accepted(alloc, lists, filter)?;
+        found = union(alloc, &found, &accepted)?;
+    }
+    Ok(found)
+}

@@ -1,5 +1,0 @@
-use Rattle.cat_session.proofs.Asked.{asked}
-use Rattle.cat_session.proofs.asks.is_quiet.Goals as goal
-
-pub returns : goal.returns
-returns g c = asked c.args.catalogue.now.state c.args.now c.quiet.result c.quiet.ensures

@@ -1,0 +1,20 @@
+//! A connection of HTTP/1.x: messages in, a reply to each out.
+//!
+//! `connection` reads the bytes of a source, cuts them into messages, asks a machine for the reply to each, and writes it to
+//! a sink before it goes on. What the machine does with a message is the machine's matter: the trait `Machine` says it by two
+//! functions, the state after a message and the bytes of the reply to it. The loop promises that the bytes written are the
+//! replies to the messages of the bytes that the source told, whatever pieces they come in, up to the message that ends the
+//! connection; that a fault is told only where an end counted one; that want of memory ends it only before the first read;
+//! and that it ends at 2^40 bytes.
+//!
+//! It stands on cat_http for messages and replies, on cat_io for the ends, and on cat_loop for what comes of a message.
+#![tactic(auto)]
+
+mod machine;
+mod message_loop;
+#[cfg(test)]
+mod tests;
+mod window;
+
+pub use machine::Machine;
+pub use message_loop::{ConnEnd, connection, messages_are_one};
