@@ -4,9 +4,10 @@
 A list of 1,000, 3,000 and 10,000 descriptors goes to the program `gauge`, which reads, writes or checks it 1 time and 21 times;
 the difference is 20 times. Where the megabytes a second are the same for each size, the work is linear in its input. For block
 YAML the same descriptors are documents parted by `---`, and the megabytes are those of the JSON. Then texts of 2, 4 and 8 MB of one kind are
-read as block YAML once; each may be refused, and takes twice the time of the one half as long where the work is linear.
+read as block YAML once; each may be refused, and takes twice the time of the one half as long where the work is linear. Time is what
+the processor spends in the gauge, the least of several runs, so that other work on the machine counts for little.
 """
-import json, os, subprocess, time
+import json, os, resource, subprocess
 
 TOP = os.path.dirname(os.path.dirname(os.path.abspath(__file__)))
 GAUGE = os.path.join(TOP, 'crates', 'gauge', 'out', 'gauge')
@@ -42,15 +43,22 @@ def yaml(descriptors):
 
 KINDS = {'one line of a plain text': lambda n: b'a: ' + b'x' * n, 'one line of a quoted text': lambda n: b'a: "' + b'x' * n + b'"',
          'one line of a list in brackets': lambda n: b'a: [' + b'x, ' * (n // 3) + b'x]', 'one line of `- - - -`': lambda n: b'- ' * (n // 2),
-         'lines of `- - - -`, 127 deep': lambda n: (b'- ' * 126 + b'-\n') * (n // 254), 'blank lines': lambda n: b'a:' + b'\n' * n,
+         'lines of `- - - -`, 127 deep': lambda n: (b'- ' * 126 + b'-\n') * (n // 254),
+         'blank lines below 127 levels': lambda n: b'- ' * 126 + b'-' + b'\n' * n, 'blank lines': lambda n: b'a:' + b'\n' * n,
          'comments': lambda n: b'a:\n' + b'# x\n' * (n // 4), 'literal text': lambda n: b'a: |\n' + b'  x\n' * (n // 4),
          'maps 127 deep': lambda n: b''.join(b'k%d:\n' % j + b''.join(b' ' * k + b'a:\n' for k in range(1, 126)) for j in range(n // 8130)),
          'documents': lambda n: b'--- # x\n- a\n' * (n // 12)}
 
+ROUNDS = 5
+
+def taken_so_far():
+    used = resource.getrusage(resource.RUSAGE_CHILDREN)
+    return used.ru_utime + used.ru_stime
+
 def seconds(word, times, text):
-    start = time.time()
+    start = taken_so_far()
     subprocess.run([GAUGE, word, str(times)], input=text, stdout=subprocess.DEVNULL, check=True)
-    return time.time() - start
+    return taken_so_far() - start
 
 def main():
     print(f'{"descriptors":>11} {"MB":>6} {"read, MB/s":>11} {"write, MB/s":>12} {"check, MB/s":>12} {"YAML, MB":>9} {"read, MB/s of JSON":>19}')
@@ -59,10 +67,9 @@ def main():
         text, documents = json.dumps(descriptors, separators=(',', ':')).encode(), yaml(descriptors)
         read = subprocess.run([GAUGE, 'yaml'], input=documents, stdout=subprocess.PIPE, check=True).stdout
         assert json.loads(read) == descriptors
-        rates = []
-        for word, given in [('read', text), ('write', text), ('check', text), ('read-yaml', documents)]:
-            taken = seconds(word, 21, given) - seconds(word, 1, given)
-            rates.append(20 * len(text) / 1000000 / taken)
+        works = [('read', text), ('write', text), ('check', text), ('read-yaml', documents)]
+        rounds = [[seconds(word, 21, given) - seconds(word, 1, given) for word, given in works] for _ in range(ROUNDS)]
+        rates = [20 * len(text) / 1000000 / min(taken) for taken in zip(*rounds)]
         print(f'{count:11} {len(text) / 1000000:6.2f} {rates[0]:11.1f} {rates[1]:12.1f} {rates[2]:12.1f} {len(documents) / 1000000:9.2f} {rates[3]:19.1f}', flush=True)
     print(f'\n{"block YAML of one kind":32} {"2 MB, s":>9} {"4 MB, s":>9} {"8 MB, s":>9}')
     for kind, text_of in KINDS.items():

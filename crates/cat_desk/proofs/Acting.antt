@@ -1,5 +1,7 @@
 -- What a call of the catalogue answered, as what a desk did.
-use Rattle.std.proofs.Common.{◌≡◌, ℕ, cond, is_some, refl, sym, ap, ◌∙◌, subst, Ok, Err, IfOk, IfErr}
+use Rattle.std.proofs.Common.{◌≡◌, ◌≤◌, ◌<◌, ◌⊎◌, inl, inr, ℕ, cond, is_some, refl, sym, ap, ◌∙◌, subst, Ok, Err, IfOk, IfErr}
+use Rattle.std.proofs.Math.Nat.{eq-or-lt_of_le}
+use Rattle.std.specs.Bool.{⊤}
 use Rattle.std.specs.declared.option.Option.TheVariants.{None, Some}
 use Rattle.std.specs.declared.result.Result.{Result}
 use Rattle.cat_core.specs.Answer.{IsCutSettle, IsReply, after, core_fault, stop_answer}
@@ -7,7 +9,7 @@ use Rattle.cat_core.specs.declared.fault.CoreFault.{CoreFault}
 use Rattle.cat_core.specs.declared.fault.CoreFault.TheVariants as core
 use Rattle.cat_core.specs.declared.fault.Cut.{Cut}
 use Rattle.cat_core.specs.declared.ledger.Ledger.{Ledger}
-use Rattle.cat_desk.specs.Acts.{Acts, answered, done, event_reply, or_refused, reply_as, settled_as}
+use Rattle.cat_desk.specs.Acts.{Acts, NeedsNone, answered, done, event_reply, or_refused, reply_as, settled_as}
 use Rattle.cat_desk.specs.Deed.{Deed}
 use Rattle.cat_desk.specs.Deed.Deed.{Settle}
 use Rattle.cat_desk.specs.declared.command.Reply.{Reply}
@@ -21,6 +23,37 @@ use Rattle.cat_model.specs.declared.types.Counts.{Counts}
 use Rattle.cat_model.specs.declared.types.Fault.{Fault}
 use Rattle.cat_model.specs.declared.types.Fault.TheVariants as model
 use Rattle.cat_model.specs.declared.types.Stop.TheVariants.{Refused as StopRefused}
+
+-- a call lacked memory
+abbrev pub Lacks : {A : Type 0} → Result A CoreFault → Type 0
+Lacks (Ok x) = ⊥
+Lacks (Err (core.OldSerial n)) = ⊥
+Lacks (Err core.NotFound) = ⊥
+Lacks (Err (core.TooLarge n)) = ⊥
+Lacks (Err (core.Spent c)) = ⊥
+Lacks (Err core.NoMemory) = ⊤
+
+-- what lacked memory answered so
+pub lacking : {A : Type 0} (came : Result A CoreFault) → Lacks came → came ≡ Err core.NoMemory
+lacking (Ok x) lacks = absurd lacks
+lacking (Err (core.OldSerial n)) lacks = absurd lacks
+lacking (Err core.NotFound) lacks = absurd lacks
+lacking (Err (core.TooLarge n)) lacks = absurd lacks
+lacking (Err (core.Spent c)) lacks = absurd lacks
+lacking (Err core.NoMemory) lacks = refl
+
+-- what is answered otherwise didn't lack memory
+pub other : {A : Type 0} (came : Result A CoreFault) (P : Type 0) (x : Result A CoreFault) → (Lacks x → ⊥) → (P → came ≡ x) → Lacks came → P → ⊥
+other came P x not same lacks h = not (subst Lacks (same h) lacks)
+
+-- a mutation of an old serial is answered so, or that it comes again
+pub old_needs : {A : Type 0} (came : Result A CoreFault) (serial last : ℕ) {x : A} → (serial ≡ last → came ≡ Ok x) → (serial < last → came ≡ Err (core.OldSerial last))
+    → Lacks came → serial ≤ last → ⊥
+old_needs came serial last again old lacks below = at (eq-or-lt_of_le below)
+  where
+    at : (serial ≡ last) ⊎ (serial < last) → ⊥
+    at (inl h) = subst Lacks (again h) lacks
+    at (inr h) = subst Lacks (old h) lacks
 
 module _ (rules : Rules) (now : ℕ) (old new : Ledger) (same : new.settings ≡ old.settings) where
   -- ---- events
@@ -41,29 +74,31 @@ module _ (rules : Rules) (now : ℕ) (old new : Ledger) (same : new.settings ≡
     state = unchanged ∙ (stays e f h ∙ sym is.does);
     settings = same;
     answer = sym (ap (λ r. or_refused r reply) h) ∙ sym is.tells;
+    spare = λ none. refl;
   }
 
   replied : {A : Type 0} (says : A → Reply) (x : A) (d : Deed) (e : Event) → Is d e (says x) → (came : Result A CoreFault)
       → new.state ≡ after came old.state (step rules old.settings e old.state) → IsReply came (refusal rules old.settings e old.state) x
-      → Acts rules now d old new (reply_as says came)
-  replied says x d e is (Ok y) state h = record {
+      → (Lacks came → NeedsNone d old.state → ⊥) → Acts rules now d old new (reply_as says came)
+  replied says x d e is (Ok y) state h needs = record {
     word = plain;
     state = state ∙ sym is.does;
     settings = same;
     answer = ap says h.1 ∙ (sym (ap (λ r. or_refused r (says x)) h.0) ∙ sym is.tells);
+    spare = λ none. refl;
   }
-  replied says x d e is (Err (core.OldSerial n)) state h = refused d e (says x) is (model.OldSerial n) state h
-  replied says x d e is (Err core.NotFound) state h = refused d e (says x) is model.NotFound state h
-  replied says x d e is (Err (core.TooLarge n)) state h = refused d e (says x) is (model.TooLarge n) state h
-  replied says x d e is (Err (core.Spent c)) state h = refused d e (says x) is (model.Spent c) state h
-  replied says x d e is (Err core.NoMemory) state h = record { word = memory; state = state; settings = same; answer = refl }
+  replied says x d e is (Err (core.OldSerial n)) state h needs = refused d e (says x) is (model.OldSerial n) state h
+  replied says x d e is (Err core.NotFound) state h needs = refused d e (says x) is model.NotFound state h
+  replied says x d e is (Err (core.TooLarge n)) state h needs = refused d e (says x) is (model.TooLarge n) state h
+  replied says x d e is (Err (core.Spent c)) state h needs = refused d e (says x) is (model.Spent c) state h
+  replied says x d e is (Err core.NoMemory) state h needs = record { word = memory; state = state; settings = same; answer = refl; spare = λ none. absurd (needs tt none) }
 
   -- what a call answered to a deed that is an event
   pub acts : {A : Type 0} (says : A → Reply) (x : A) (d' d : Deed) (e : Event) → d' ≡ d → Is d e (says x) → (came : Result A CoreFault)
       → new.state ≡ after came old.state (step rules old.settings e old.state) → IsReply came (refusal rules old.settings e old.state) x
-      → (reply : Reply) → reply ≡ reply_as says came → Acts rules now d' old new reply
-  acts says x d' d e same_deed is came state h reply told =
-      subst (λ r. Acts rules now d' old new r) (sym told) (subst (λ v. Acts rules now v old new (reply_as says came)) (sym same_deed) (replied says x d e is came state h))
+      → (Lacks came → NeedsNone d old.state → ⊥) → (reply : Reply) → reply ≡ reply_as says came → Acts rules now d' old new reply
+  acts says x d' d e same_deed is came state h needs reply told =
+      subst (λ r. Acts rules now d' old new r) (sym told) (subst (λ v. Acts rules now v old new (reply_as says came)) (sym same_deed) (replied says x d e is came state h needs))
 
   -- ---- settles
 
@@ -73,6 +108,7 @@ module _ (rules : Rules) (now : ℕ) (old new : Ledger) (same : new.settings ≡
     state = sym h.state;
     settings = same;
     answer = λ i. replies.Cut (record { events = sym h.events i; fault = lack i });
+    spare = λ none. absurd none;
   }
 
   spent : (c : Cut) (f : Fault) → ((try_settle rules old.settings now None old.state).state ≡ new.state) × ((try_settle rules old.settings now None old.state).events ≡ c.events)
@@ -82,6 +118,7 @@ module _ (rules : Rules) (now : ℕ) (old new : Ledger) (same : new.settings ≡
     state = sym whole.0;
     settings = same;
     answer = (λ i. replies.Cut (record { events = sym whole.1 i; fault = cause i })) ∙ sym (ap (λ s. settled_as (stop_answer (try_settle rules old.settings now None old.state) s)) stop);
+    spare = λ none. refl;
   }
 
   cut_at : (events : ℕ) (fault : CoreFault) → IsCutSettle rules old.settings now old.state new.state (record { events = events; fault = fault }) → Acts rules now Settle old new (replies.Cut (record { events = events; fault = fault }))
@@ -99,6 +136,7 @@ module _ (rules : Rules) (now : ℕ) (old new : Ledger) (same : new.settings ≡
     state = state;
     settings = same;
     answer = ap replies.Settled count ∙ sym (ap (λ s. settled_as (stop_answer (try_settle rules old.settings now None old.state) s)) ended);
+    spare = λ none. refl;
   }
   settled_at (Err c) state count ended part = cut_at c.events c.fault part
 

@@ -1,5 +1,5 @@
 -- What a deed does to a catalogue at a moment, and what is answered.
-use Rattle.std.specs.Prelude.{◌≡◌, ℕ}
+use Rattle.std.specs.Prelude.{◌≡◌, ◌≤◌, ℕ, ⊤}
 use Rattle.std.specs.declared.option.Option.{Option}
 use Rattle.std.specs.declared.option.Option.TheVariants.{None, Some}
 use Rattle.std.specs.declared.result.Result.{Result}
@@ -14,11 +14,13 @@ use Rattle.cat_desk.specs.Deed.Deed.{Mutate, ShelfPut, ShelfDrop, Refresh, Forge
 use Rattle.cat_desk.specs.declared.command.Reply.{Reply}
 use Rattle.cat_desk.specs.declared.command.Reply.TheVariants as replies
 use Rattle.cat_io.specs.Clock.{CountsReading}
+use Rattle.cat_table.specs.Table.{get}
 use Rattle.cat_loop.specs.Word.{Word, plain, memory, cut}
 use Rattle.cat_model.specs.Catalogue.{Rules}
 use Rattle.cat_model.specs.Reply.{acted, finished, next_stitch, placed, taken}
 use Rattle.cat_model.specs.Settle.{try_settle}
-use Rattle.cat_model.specs.Step.{Event, refusal, step}
+use Rattle.cat_model.specs.Sound.{its_number}
+use Rattle.cat_model.specs.Step.{Event, ref_at, refusal, source_at, step}
 use Rattle.cat_model.specs.Step.Event.{Mutate as Mutated, ShelfPut as PutOnShelf, ShelfDrop as DroppedFromShelf, Refresh as Refreshed, Forget as Forgotten, ForgetNumber as NumberForgotten, Take as Taken, Finish as Finished, PutStitch as StitchPut}
 use Rattle.cat_model.specs.declared.types.Counts.{Counts}
 use Rattle.cat_model.specs.declared.types.Fault.{Fault}
@@ -94,14 +96,32 @@ deed_reply rules s now plain d m = answered rules s now None d m
 deed_reply rules s now memory d m = replies.Refused NoMemory
 deed_reply rules s now (cut n) d m = answered rules s now (Some n) d m
 
+-- ---- what takes no memory
+
+-- What is done or refused without memory, so that it never lacks it: a mutation with the last serial or a lower one, a refresh, and
+-- what names a text, a reference or a number that isn't there.
+abbrev pub NeedsNone : Deed → State → Type 0
+NeedsNone (Mutate provider x) m = x.serial ≤ (source_at (get m.providers provider)).serial
+NeedsNone (ShelfPut name text) m = ⊥
+NeedsNone (ShelfDrop name) m = get m.shelf name ≡ None
+NeedsNone (Refresh r) m = ⊤
+NeedsNone (Forget r) m = its_number m r ≡ None
+NeedsNone (ForgetNumber number) m = ref_at m number ≡ None
+NeedsNone Take m = ⊥
+NeedsNone (Finish order) m = ⊥
+NeedsNone (TakeStitch after) m = ⊥
+NeedsNone (PutStitch order) m = ⊥
+NeedsNone Settle m = ⊥
+
 -- ---- what a catalogue does
 
--- A deed was done to a catalogue at this moment, or lacked memory, and this is the reply.
+-- A deed was done to a catalogue at this moment, or lacked memory where it takes any, and this is the reply.
 pub record Acts (rules : Rules) (now : ℕ) (d : Deed) (old new : Ledger) (reply : Reply) : Type 0 where
   pub word : Word
   pub state : new.state ≡ after_deed rules old.settings now word d old.state
   pub settings : new.settings ≡ old.settings
   pub answer : reply ≡ deed_reply rules old.settings now word d old.state
+  pub spare : NeedsNone d old.state → word ≡ plain
 
 -- The same at the moment that a clock gave last, which was read once for it.
 pub record ActsOnce (rules : Rules) (now readings readings' : ℕ) (d : Deed) (old new : Ledger) (reply : Reply) : Type 0 where

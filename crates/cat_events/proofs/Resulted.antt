@@ -29,8 +29,8 @@ use Rattle.cat_model.specs.declared.types.Fault.{Fault}
 use Rattle.cat_model.specs.declared.types.Fault.TheVariants.{Spent}
 use Rattle.cat_model.specs.declared.types.Counter.{Counter}
 use Rattle.cat_model.specs.declared.types.Counter.TheVariants.{Arrival, Number, Token, Ticket}
-use Rattle.cat_model.specs.declared.types.Leaving.TheVariants.{Orphaned}
 use Rattle.cat_model.specs.declared.types.Numbered.{Numbered}
+use Rattle.cat_model.specs.declared.types.Leaving.{Leaving}
 use Rattle.cat_model.specs.declared.types.Order.{Order}
 use Rattle.cat_model.specs.declared.types.Origin.{Origin}
 use Rattle.cat_model.specs.declared.types.Origin.TheVariants.{Entity}
@@ -40,7 +40,7 @@ use Rattle.cat_model.specs.declared.types.Settings.{Settings}
 use Rattle.cat_model.specs.declared.types.State.{State}
 use Rattle.cat_model.specs.Catalogue.{Ref, Rows, Rules, changed_refs, emits, frame, output_of, row_at, same_option, tickets}
 use Rattle.cat_model.specs.Sound.{AreOffers, AreOrdered, AreSmall, Sound, offered}
-use Rattle.cat_model.specs.Step.{Event, add_offer, add_offers, fault_where, finish, finished_record, finished_rows, finished_state, has_row, is_offer, offered_again, or_else, row_after, same_origin, spent, with_record}
+use Rattle.cat_model.specs.Step.{Event, add_offer, add_offers, fault_where, finish, finished_record, finished_rows, finished_state, has_row, leaving, is_offer, offered_again, or_else, row_after, same_origin, spent, with_record}
 use Rattle.cat_model.specs.Step.Event.{Finish}
 use Rattle.cat_laws.proofs.Alone.{alone_framed}
 use Rattle.cat_laws.proofs.Replaced.{same_origin-is}
@@ -284,17 +284,17 @@ unspent n h =
     (or_else (unspent_at n.number h.number Number i) (or_else (unspent_at n.token h.token Token i) (unspent_at n.ticket h.ticket Ticket i)))
 
 -- what follows from a result, where order and outcome are those of a result with its order
-pub result_framed : (rules : Rules) (s : Settings) (order other : Order) (now : ℕ) (x : Record) (outcome : Outcome) (m n f : State) → order ≡ other → outcome ≡ rules.result other.work
-    → n ≡ finished_state s order.reference now x outcome m → f ≡ frame rules Orphaned m n → f ≡ frame rules Orphaned m (finished_state s other.reference now x (rules.result other.work) m)
-result_framed rules s order other now x outcome m n f eo ec en ef = ef ∙ ap (frame rules Orphaned m) (en ∙ (λ i. finished_state s (eo i).reference now x (ec i) m))
+pub result_framed : (rules : Rules) (s : Settings) (order other : Order) (now : ℕ) (x : Record) (outcome : Outcome) (m n f : State) (how : Leaving) → order ≡ other → outcome ≡ rules.result other.work
+    → n ≡ finished_state s order.reference now x outcome m → how ≡ leaving s.orphans → f ≡ frame rules how m n → f ≡ frame rules (leaving s.orphans) m (finished_state s other.reference now x (rules.result other.work) m)
+result_framed rules s order other now x outcome m n f how eo ec en eh ef = ef ∙ (λ i. frame rules (eh i) m ((en ∙ (λ j. finished_state s (eo j).reference now x (ec j) m)) i))
 
 module _ (rules : Rules) (s : Settings) (order : Order) (now : ℕ) (m : State) where
   abbrev result_state : Record → State
-  result_state x = frame rules Orphaned m (finished_state s order.reference now x (rules.result order.work) m)
+  result_state x = frame rules (leaving s.orphans) m (finished_state s order.reference now x (rules.result order.work) m)
 
   -- a finish of the present order is the frame of what the result makes of record and rows
   pub finish_comes : (x : Record) → get m.records order.reference ≡ Some x → is_present_order rules m order (Some x) ≡ true
-      → come_to rules s (Finish order now) m ≡ stepped (spent (frame rules Orphaned m (finished_state s order.reference now x (rules.result order.work) m))) (frame rules Orphaned m (finished_state s order.reference now x (rules.result order.work) m))
+      → come_to rules s (Finish order now) m ≡ stepped (spent (frame rules (leaving s.orphans) m (finished_state s order.reference now x (rules.result order.work) m))) (frame rules (leaving s.orphans) m (finished_state s order.reference now x (rules.result order.work) m))
   finish_comes x at present =
       ap (λ v. stepped (spent (finish rules s order now m v)) (finish rules s order now m v)) at
       ∙ ap (λ b. stepped (spent (cond b (result_state x) m)) (cond b (result_state x) m)) present
@@ -313,8 +313,8 @@ module _ (rules : Rules) (s : Settings) (order : Order) (now : ℕ) (m : State) 
   result_alone x sound ordered at leaves =
       let y = finished_record s now x (rules.result order.work) in
       let refs = changed_refs rules m (with_record order.reference y m) in
-      ap (frame rules Orphaned m) (finished_alone s order.reference now x (rules.result order.work) m sound.offers sound.rows_in_order leaves)
-      ∙ (alone_framed rules Orphaned m order.reference x y sound ordered at (output_stays s now x (rules.result order.work))
+      ap (frame rules (leaving s.orphans) m) (finished_alone s order.reference now x (rules.result order.work) m sound.offers sound.rows_in_order leaves)
+      ∙ (alone_framed rules (leaving s.orphans) m order.reference x y sound ordered at (output_stays s now x (rules.result order.work))
       ∙ ap (λ k. record (with_record order.reference y m) { marks = puts text_cmp (tickets m.ticket refs) m.marks; ticket = m.ticket + k }) (sym (length-tickets m.ticket refs)))
 
   -- so a finish of the present order that leaves all rows comes to that

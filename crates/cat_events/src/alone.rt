@@ -4,9 +4,10 @@ ghost use Rattle.std.specs.Prelude.{◌≡◌, ◌≤◌, ◌^◌, ◌||◌, ◌
 ghost use Rattle.std.specs.List.{list_any};
 ghost use Rattle.std.specs.FinMap.Entries.{is_sorted};
 ghost use Rattle.std.specs.List.Sorted.{IsStrictlySortedBy};
+ghost use Rattle.std.proofs.Props.{props};
 ghost use Rattle.cat_table.specs.Table.{get, keys, put, same_text, text_cmp};
 ghost use Rattle.cat_links.specs.Changes.{AreChanged, with_emitter};
-ghost use Rattle.cat_frame.specs.Linked.{AreLinked, moved};
+ghost use Rattle.cat_frame.specs.Linked.{AreApart, AreLinked, moved};
 ghost use Rattle.cat_model.specs.Catalogue.{changed_refs, emits, tickets};
 ghost use Rattle.cat_model.specs.Sound.{AreSmall};
 ghost use Rattle.cat_model.specs.Step.{spent, with_record};
@@ -16,7 +17,7 @@ ghost use Rattle.cat_events.specs.Stepped.{stepped};
 
 use crate::refusal::MOST;
 use crate::without::is_same;
-use cat_frame::parts::parts_of;
+use cat_frame::parts::{is_relinked, parts_of};
 use cat_hold::build::{Passes, filtered, tabulated};
 use cat_hold::layers::Layers;
 use cat_hold::parts::{Present, append, same_option_parts};
@@ -162,11 +163,16 @@ fn has_moved<L: Layers>(
     change: &Change<'_>,
     reference: &Ref,
 ) -> Result<bool, AllocError>
+    requires rises { IsStrictlySortedBy text_cmp change.now.plan.now.changed }
+    requires apart { AreApart change.now.links.now change.now.plan.now.after change.now.plan.now.changed }
     ensures { IfOk result (λ b. b ≡ moved L.rules change.now.links.now change.now.m.now change.now.plan.now.after (with_record change.now.reference.now change.now.kept.now change.now.m.now) reference.now) }
 {
     let m = change.m;
-    let orphan = m.orphans.get(reference);
     let kept = record_after(change, reference);
+    if is_relinked(change.plan, reference, kept) {
+        return Ok(true);
+    }
+    let orphan = m.orphans.get(reference);
     let now = parts_of(alloc, layers, change.plan.after(), reference, orphan, kept)?;
     let orphan = m.orphans.get(reference);
     let kept = m.records.get(reference);
@@ -178,6 +184,8 @@ fn has_moved<L: Layers>(
 struct HasMoved<'a, L> {
     layers: &'a L,
     change: &'a Change<'a>,
+    ghost rises: { IsStrictlySortedBy text_cmp change.now.plan.now.changed } by { Prim.hlevel props },
+    ghost apart: { AreApart change.now.links.now change.now.plan.now.after change.now.plan.now.changed },
 }
 
 impl<L: Layers> Passes<Ref> for HasMoved<'_, L> {

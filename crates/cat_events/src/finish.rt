@@ -3,10 +3,9 @@ ghost use Rattle.std.specs.Prelude.{◌≡◌, ◌+◌, ◌<◌, ◌≤◌, ◌^
 ghost use Rattle.std.specs.declared.option.Option.TheVariants.{Some};
 ghost use Rattle.cat_table.specs.Table.{get};
 ghost use Rattle.cat_frame.specs.Linked.{AreLinked};
-ghost use Rattle.cat_model.specs.declared.types.Leaving.TheVariants.{Orphaned};
 ghost use Rattle.cat_model.specs.Catalogue.{changed_refs, frame, tickets};
 ghost use Rattle.cat_model.specs.Sound.{AreSmall};
-ghost use Rattle.cat_model.specs.Step.{finished_record, finished_rows, finished_state, with_record};
+ghost use Rattle.cat_model.specs.Step.{finished_record, finished_rows, finished_state, leaving, with_record};
 ghost use Rattle.cat_model.specs.Step.Event.{Finish};
 ghost use Rattle.cat_events.specs.Alone.{is_present_order, offers_again};
 ghost use Rattle.cat_events.specs.Coming.{HasCome, IsLinkedStep, IsSteady, seen};
@@ -21,11 +20,21 @@ use crate::stepped::{Step, take_in};
 use cat_frame::frame::framed;
 use cat_hold::layers::Layers;
 use cat_links::links::{LinkPlan, Links};
-use cat_model::types::{Fault, Leaving, Numbered, Origin, Record, Settings, State};
+use cat_model::types::{Fault, Leaving, Numbered, Origin, OrphanRule, Record, Settings, State};
 use cat_ref::reference::Ref;
 use cat_table::listing::Copied;
 use cat_types::work::Outcome;
 use std::alloc::{AllocError, Global};
+
+// What becomes of what leaves at a finish.
+fn leaving(rule: OrphanRule) -> Leaving
+    ensures { result ≡ leaving rule }
+{
+    match rule {
+        OrphanRule::Keep => Leaving::Orphaned,
+        OrphanRule::Delete => Leaving::Deleted,
+    }
+}
 
 fn record_finished(
     alloc: Global,
@@ -146,13 +155,13 @@ fn after_result<L: Layers>(
 ) -> Result<(State, LinkPlan), AllocError>
     requires steady { IsSteady L.rules links.now m.now }
     requires moments { AreMoments settings.now now }
-    ensures state { IfOk result (λ n. n.0 ≡ frame L.rules Orphaned m.now (finished_state settings.now done.now.order.now.reference now kept.now (L.rules.result done.now.order.now.work) m.now)) }
+    ensures state { IfOk result (λ n. n.0 ≡ frame L.rules (leaving settings.now.orphans) m.now (finished_state settings.now done.now.order.now.reference now kept.now (L.rules.result done.now.order.now.work) m.now)) }
     ensures linked { IfOk result (λ n. AreLinked L.rules n.1.after n.0) }
 {
     let reference = &done.order().reference;
     let n = state_finished(alloc, settings, reference, now, kept, done.outcome(), m)?;
     let own = Some(reference.duplicate(alloc)?);
-    framed(alloc, layers, Leaving::Orphaned, &own, m, links, n)
+    framed(alloc, layers, leaving(settings.orphans), &own, m, links, n)
 }
 
 // What the finish of the present order comes to.

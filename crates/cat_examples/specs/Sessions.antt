@@ -5,6 +5,8 @@ use Rattle.cat_layers.specs.Layered.{layered}
 use Rattle.cat_loop.specs.Lines.{lines as lines_of}
 use Rattle.cat_loop.specs.Runs.{after_lines, replies}
 use Rattle.cat_loop.specs.Word.{Word, plain}
+use Rattle.cat_model.specs.declared.types.OrphanRule.{OrphanRule}
+use Rattle.cat_model.specs.declared.types.OrphanRule.TheVariants.{Keep}
 use Rattle.cat_transcript.specs.Program.{program_settings, session_start}
 use Rattle.cat_transcript.specs.Session.{session_after, session_reply}
 use Rattle.cat_transcript.specs.declared.state.SessionState.{SessionState}
@@ -13,9 +15,13 @@ use Rattle.cat_transcript.specs.declared.state.SessionState.{SessionState}
 abbrev pub plainly : List Text → List Word
 plainly lines = map (λ line. plain) lines
 
+-- what the program says under a rule for orphans to the lines, of which none lacks memory
+abbrev pub said_under : OrphanRule → List Text → List ℕ
+said_under rule lines = replies (session_after layered (program_settings rule)) (session_reply layered (program_settings rule)) session_start lines (plainly lines)
+
 -- what the program says to the lines, each with its word
 abbrev pub said_with : List Word → List Text → List ℕ
-said_with words lines = replies (session_after layered program_settings) (session_reply layered program_settings) session_start lines words
+said_with words lines = replies (session_after layered (program_settings Keep)) (session_reply layered (program_settings Keep)) session_start lines words
 
 -- what the program says to the lines, of which none lacks memory
 abbrev pub said : List Text → List ℕ
@@ -27,7 +33,7 @@ said_by bytes = said (lines_of bytes)
 
 -- the session after the lines, of which none lacks memory
 abbrev pub reached : List Text → SessionState
-reached lines = after_lines (session_after layered program_settings) session_start lines (plainly lines)
+reached lines = after_lines (session_after layered (program_settings Keep)) session_start lines (plainly lines)
 
 -- the texts one after the other, each with an LF at its end
 abbrev pub printed : List Text → List ℕ

@@ -7,6 +7,7 @@ ghost use Rattle.cat_model.specs.Step.Event.{Mutate, Take};
 ghost use Rattle.cat_model.specs.declared.types.Counter.TheVariants.{Token};
 ghost use Rattle.cat_model.specs.declared.types.Fault.TheVariants.{Spent, TooLarge};
 ghost use Rattle.cat_layers.specs.Layered.{layered};
+ghost use Rattle.cat_model.specs.declared.types.OrphanRule.TheVariants.{Keep};
 ghost use Rattle.cat_transcript.specs.Program.{program_settings};
 ghost use Rattle.cat_examples.specs.Entities.{at_spent_tokens, before_settle, component, component_given};
 ghost use Rattle.cat_examples.specs.Sessions.{first_line, printed, said_with};
@@ -27,15 +28,15 @@ pub fn memory_may_lack()
 /// A mutation is refused where the compact texts of all items would pass the limit, by one byte already, and not where they
 /// have just as many bytes.
 pub fn input_has_a_limit()
-    ensures above { refusal layered (record program_settings { input_limit = 150 }) (Mutate (codes "git") component_given) start
+    ensures above { refusal layered (record (program_settings Keep) { input_limit = 150 }) (Mutate (codes "git") component_given) start
         ≡ Some (TooLarge 151) }
-    ensures at { refusal layered (record program_settings { input_limit = 151 }) (Mutate (codes "git") component_given) start ≡ None }
+    ensures at { refusal layered (record (program_settings Keep) { input_limit = 151 }) (Mutate (codes "git") component_given) start ≡ None }
     ensures bytes { length (text_of component) ≡ 151 }
 {}
 
 /// Where all tokens below 2^59 were drawn, a take is refused and changes nothing.
 pub fn tokens_have_an_end()
-    ensures before { refusal layered program_settings (Take 0) before_settle ≡ None }
-    ensures spent { refusal layered program_settings (Take 0) at_spent_tokens ≡ Some (Spent Token) }
-    ensures unchanged { step layered program_settings (Take 0) at_spent_tokens ≡ at_spent_tokens }
+    ensures before { refusal layered (program_settings Keep) (Take 0) before_settle ≡ None }
+    ensures spent { refusal layered (program_settings Keep) (Take 0) at_spent_tokens ≡ Some (Spent Token) }
+    ensures unchanged { step layered (program_settings Keep) (Take 0) at_spent_tokens ≡ at_spent_tokens }
 {}

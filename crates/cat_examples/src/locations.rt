@@ -1,6 +1,7 @@
 //! Locations and what they list: whole sessions from an empty catalogue on, each with what the program says to its lines.
 ghost use Rattle.std.specs.Prelude.{◌≡◌, [], ◌∷◌, codes};
-ghost use Rattle.cat_examples.specs.Sessions.{said, printed};
+ghost use Rattle.cat_examples.specs.Sessions.{said, said_under, printed};
+ghost use Rattle.cat_model.specs.declared.types.OrphanRule.TheVariants.{Delete};
 
 /// An entity that its location no longer lists stays as an orphan, with an annotation that says so and the relations that it
 /// states; when it is listed again it is no orphan and has its number as before.
@@ -33,6 +34,35 @@ pub fn what_is_unlisted_is_an_orphan()
         ∷ codes "settled 2 2 2"
         ∷ codes "[]"
         ∷ codes "{\"apiVersion\":\"backstage.io/v1alpha1\",\"kind\":\"Component\",\"metadata\":{\"annotations\":{\"backstage.io/managed-by-location\":\"file:/r.json\",\"backstage.io/managed-by-origin-location\":\"file:/r.json\"},\"name\":\"web\",\"namespace\":\"default\",\"uid\":\"00000000-0000-8000-8000-000000000002\"},\"relations\":[{\"targetRef\":\"group:default/a\",\"type\":\"ownedBy\"}],\"spec\":{\"lifecycle\":\"production\",\"owner\":\"a\",\"type\":\"service\"}}"
+        ∷ []) }
+{}
+
+/// Under the rule that deletes, an entity that its location no longer lists is gone; when it is listed again it has another number.
+/// The lines are those of examples/orphan-deleted.session.
+pub fn what_is_unlisted_is_deleted()
+    ensures said { said_under Delete (
+        codes "full git {\"serial\":1,\"entities\":[{\"entity\":{\"apiVersion\":\"backstage.io/v1alpha1\",\"kind\":\"Location\",\"metadata\":{\"name\":\"root\"},\"spec\":{\"type\":\"file\",\"target\":\"/r.json\"}}}]}"
+        ∷ codes "put file:/r.json [{\"apiVersion\":\"backstage.io/v1alpha1\",\"kind\":\"Group\",\"metadata\":{\"name\":\"a\"},\"spec\":{\"type\":\"team\",\"children\":[]}},{\"apiVersion\":\"backstage.io/v1alpha1\",\"kind\":\"Component\",\"metadata\":{\"name\":\"web\"},\"spec\":{\"type\":\"service\",\"lifecycle\":\"production\",\"owner\":\"a\"}}]"
+        ∷ codes "settle"
+        ∷ codes "put file:/r.json [{\"apiVersion\":\"backstage.io/v1alpha1\",\"kind\":\"Group\",\"metadata\":{\"name\":\"a\"},\"spec\":{\"type\":\"team\",\"children\":[]}}]"
+        ∷ codes "settle"
+        ∷ codes "orphans"
+        ∷ codes "get component:default/web"
+        ∷ codes "put file:/r.json [{\"apiVersion\":\"backstage.io/v1alpha1\",\"kind\":\"Group\",\"metadata\":{\"name\":\"a\"},\"spec\":{\"type\":\"team\",\"children\":[]}},{\"apiVersion\":\"backstage.io/v1alpha1\",\"kind\":\"Component\",\"metadata\":{\"name\":\"web\"},\"spec\":{\"type\":\"service\",\"lifecycle\":\"production\",\"owner\":\"a\"}}]"
+        ∷ codes "settle"
+        ∷ codes "get component:web"
+        ∷ [])
+        ≡ printed (
+        codes "ok"
+        ∷ codes "ok"
+        ∷ codes "settled 2 3 3"
+        ∷ codes "ok"
+        ∷ codes "settled 1 1 1"
+        ∷ codes "[]"
+        ∷ codes "refused not_found"
+        ∷ codes "ok"
+        ∷ codes "settled 2 2 2"
+        ∷ codes "{\"apiVersion\":\"backstage.io/v1alpha1\",\"kind\":\"Component\",\"metadata\":{\"annotations\":{\"backstage.io/managed-by-location\":\"file:/r.json\",\"backstage.io/managed-by-origin-location\":\"file:/r.json\"},\"name\":\"web\",\"namespace\":\"default\",\"uid\":\"00000000-0000-8000-8000-000000000004\"},\"relations\":[{\"targetRef\":\"group:default/a\",\"type\":\"ownedBy\"}],\"spec\":{\"lifecycle\":\"production\",\"owner\":\"a\",\"type\":\"service\"}}"
         ∷ []) }
 {}
 

@@ -10,10 +10,10 @@ use Rattle.cat_model.specs.Catalogue.{Ref, Tree, Rules, parts, document_after, f
 use Rattle.cat_model.specs.Formed.{FormRules, Formed, IsPartsOf, IsFormedEvent, AreFormedEvents}
 use Rattle.cat_model.specs.Settle.{IsSettleEvent, AreSettleEvents, try_settle, width, not_begun}
 use Rattle.cat_model.specs.Sound.{AreSmall, Sound}
-use Rattle.cat_model.specs.Step.{Event, change, finish, finished_state, forget, forget_at, forgotten, is_present, is_present_stitch, is_ticket, mutated_state, next_taken, put_stitch, ref_at, refresh, refusal, run, source_at, start, step, take, take_next, without_key}
+use Rattle.cat_model.specs.Step.{Event, change, finish, finished_state, forget, forget_at, forgotten, is_present, is_present_stitch, is_ticket, leaving, mutated_state, next_taken, put_stitch, ref_at, refresh, refusal, run, source_at, start, step, take, take_next, without_key}
 use Rattle.cat_model.specs.Step.Event.{Mutate, ShelfPut, ShelfDrop, Refresh, Forget, ForgetNumber, Take, TakeAt, Finish, PutStitch}
 use Rattle.cat_model.specs.declared.types.Leaving.{Leaving}
-use Rattle.cat_model.specs.declared.types.Leaving.TheVariants.{Deleted, Orphaned}
+use Rattle.cat_model.specs.declared.types.Leaving.TheVariants.{Deleted}
 use Rattle.cat_model.specs.declared.types.Order.{Order}
 use Rattle.cat_model.specs.declared.types.Record.{Record}
 use Rattle.cat_model.specs.declared.types.Settings.{Settings}
@@ -84,7 +84,7 @@ module _ (rules : Rules) (form : FormRules rules) where
     finish_documents : (order : Order) (now : ℕ) (m : State) (v : Option Record) → Documents m → Documents (finish rules s order now m v)
     finish_documents order now m None h = h
     finish_documents order now m (Some x) h =
-        at_cond Documents (is_present rules m order x) _ m (λ is. frame_documents Orphaned m (finished_state s order.reference now x (rules.result order.work) m) h) h
+        at_cond Documents (is_present rules m order x) _ m (λ is. frame_documents (leaving s.orphans) m (finished_state s order.reference now x (rules.result order.work) m) h) h
 
     put_documents : (r : Ref) (p : Parts) (m : State) → IsPartsOf form r p → Documents m → (q : Ref) (d : Tree) → get (put text_cmp r (rules.doc p) m.documents) q ≡ Some d → IsStored q d
     put_documents r p m are h q d e = go (same_text q r) refl

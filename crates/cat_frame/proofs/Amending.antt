@@ -1,5 +1,5 @@
 -- What is found in a table from which some go and into which some are put.
-use Rattle.std.proofs.Common.{T, ◌≡◌, ℕ, suc, ◌+◌, Bool, true, false, cond, not, ◌&&◌, ◌||◌, List, [], ◌∷◌, refl, sym, ap, subst, ◌∙◌, arith, true≢false, Less}
+use Rattle.std.proofs.Common.{T, ◌≡◌, ℕ, suc, ◌+◌, Bool, true, false, cond, not, ◌&&◌, ◌||◌, List, [], ◌∷◌, length, refl, sym, ap, subst, ◌∙◌, arith, true≢false, unwrap_or, Less}
 use Rattle.std.specs.declared.option.Option.{Option}
 use Rattle.std.specs.declared.option.Option.TheVariants.{None, Some}
 use Rattle.std.specs.List.{AllByRecursion, filter, list_any}
@@ -8,7 +8,7 @@ use Rattle.std.specs.Ordering.{is_eq, is_lt}
 use Rattle.std.specs.FinMap.Entries.{below_all, find-where_key, is_sorted, is_sorted-put, is_sorted-where_key, same_entries}
 use Rattle.cat_table.specs.Rows.{without}
 use Rattle.cat_table.specs.Table.{Map, Text, get, place, put, puts, same_text, text_cmp}
-use Rattle.cat_table.proofs.Tables.{text_total, text_antisymmetric, find-put_other, find-put_same, same_is, same_self}
+use Rattle.cat_table.proofs.Tables.{text_total, text_antisymmetric, find-put_other, find-put_same, or_false_first, or_false_second, same_is, same_self}
 use Rattle.cat_table.proofs.Orders.{has-filter}
 use Rattle.cat_model.specs.Catalogue.{tickets}
 use Rattle.cat_frame.specs.Amended.{amended, entries_of, entry_before, without_all}
@@ -133,6 +133,28 @@ get-drawn t (r ∷ rs) q = go (same_text q r) (get-drawn (t + 1) rs q)
         → cond b (Some t) (get (tickets (t + 1) rs) q) ≡ cond (b || list_any (same_text q) rs) (Some (t + cond b 0 (suc (place text_cmp q rs)))) None
     go true ih = let e : t ≡ t + 0 = omega arith in ap Some e
     go false ih = ih ∙ more (list_any (same_text q) rs) (place text_cmp q rs)
+
+-- what isn't among references would stand behind them
+place_absent : (rs : List Text) (q : Text) → list_any (same_text q) rs ≡ false → place text_cmp q rs ≡ length rs
+place_absent [] q h = refl
+place_absent (r ∷ rs) q h =
+    ap (λ b. cond b 0 (suc (place text_cmp q rs))) (or_false_first (same_text q r) _ h) ∙ ap suc (place_absent rs q (or_false_second (same_text q r) _ h))
+
+-- the number that is found is the one drawn, and what drew none would draw the next
+pub number_drawn : (t : ℕ) (rs : List Text) (q : Text) (v : Option ℕ) → v ≡ get (tickets t rs) q → unwrap_or v (t + length rs) ≡ t + place text_cmp q rs
+number_drawn t rs q v e = go (list_any (same_text q) rs) refl (e ∙ get-drawn t rs q)
+  where
+    go : (b : Bool) → list_any (same_text q) rs ≡ b → v ≡ cond b (Some (t + place text_cmp q rs)) None → unwrap_or v (t + length rs) ≡ t + place text_cmp q rs
+    go true h e = ap (λ u. unwrap_or u (t + length rs)) e
+    go false h e = ap (λ u. unwrap_or u (t + length rs)) e ∙ ap (λ k. t + k) (sym (place_absent rs q h))
+
+-- the ticket that is found is the one drawn
+pub mark_drawn : (t : ℕ) (rs : List Text) (q : Text) (v mark : Option ℕ) → v ≡ get (tickets t rs) q → or_else v mark ≡ cond (list_any (same_text q) rs) (Some (t + place text_cmp q rs)) mark
+mark_drawn t rs q v mark e = ap (λ u. or_else u mark) (e ∙ get-drawn t rs q) ∙ go (list_any (same_text q) rs)
+  where
+    go : (b : Bool) → or_else (cond b (Some (t + place text_cmp q rs)) None) mark ≡ cond b (Some (t + place text_cmp q rs)) mark
+    go true = refl
+    go false = refl
 
 -- a reference below all of these isn't among them
 none_above : (r : Text) (rs : List Text) → AllByRecursion (λ y. text_cmp r y ≡ Less) rs → list_any (same_text r) rs ≡ false

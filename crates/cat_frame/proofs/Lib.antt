@@ -6,3 +6,4 @@ pub mod Amending
 pub mod Recording
 pub mod Relinking
 pub mod Owned
+pub mod Shifted

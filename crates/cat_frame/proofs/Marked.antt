@@ -15,7 +15,19 @@ use Rattle.cat_table.specs.Table.{Text, Map, find, get, keys, place, same_text, 
 use Rattle.cat_table.proofs.Tables.{text_total, text_antisymmetric, any_filter, find-tabulate, same_is, same_tabulated}
 use Rattle.cat_model.specs.Catalogue.{Ref, Rules, changed_refs, document_after, known_refs, mark_after, parts, parts_from, parts_of_orphan, parts_of_record, records_emit, remarked, same_option}
 use Rattle.cat_hold.specs.Parts.{has_parts}
-use Rattle.cat_frame.specs.Marks.{marked, with_parts}
+use Rattle.cat_frame.specs.Marks.{marked, marked_with, with_parts}
+
+-- the state of these marks and documents, and of the ticket after those that are drawn
+pub marked_with-is : (n : State) (moved all names : List Ref) (marks : Map ℕ) (documents : Map Data) (ticket : ℕ)
+    → all ≡ known_refs n → names ≡ keys n.documents
+    → marks ≡ tabulate text_cmp all (λ r. marked n.ticket moved n r)
+    → documents ≡ tabulate text_cmp names (λ r. option_and_then (λ document. with_parts n r document) (find text_cmp r n.documents))
+    → ticket ≡ n.ticket + length moved
+    → record n { marks = marks; documents = documents; ticket = ticket } ≡ marked_with moved n
+marked_with-is n moved all names marks documents ticket ea en er ed et =
+    let a : marks ≡ (marked_with moved n).marks = er ∙ (λ j. tabulate text_cmp (ea j) (λ r. marked n.ticket moved n r)) in
+    let b : documents ≡ (marked_with moved n).documents = ed ∙ (λ j. tabulate text_cmp (en j) (λ r. option_and_then (λ document. with_parts n r document) (find text_cmp r n.documents))) in
+    λ i. record n { marks = a i; documents = b i; ticket = et i }
 
 -- two tables agree where their functions agree on the keys
 same_on : {X : Type 0} (ks : List Text) (f g : Text → Option X) → ((q : Text) → list_any (same_text q) ks ≡ true → f q ≡ g q) → tabulate text_cmp ks f ≡ tabulate text_cmp ks g

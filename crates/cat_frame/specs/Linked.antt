@@ -1,9 +1,9 @@
 -- What the kept outputs emit, what an event changes of that, and the references whose parts it may change.
-use Rattle.std.specs.Prelude.{◌≡◌, Bool, true, false, T, not, ◌&&◌, ◌||◌, List, [], ◌∷◌, ◌++◌, map, is_some, is_none}
+use Rattle.std.specs.Prelude.{◌≡◌, ◌≢◌, Bool, true, false, T, not, ◌&&◌, ◌||◌, List, [], ◌∷◌, ◌++◌, map, is_some, is_none}
 use Rattle.std.specs.declared.option.Option.{Option}
 use Rattle.std.specs.declared.option.Option.TheVariants.{None, Some}
 use Rattle.std.specs.Bool.{beq}
-use Rattle.std.specs.List.{filter, list_any}
+use Rattle.std.specs.List.{Contains, filter, list_any}
 use Rattle.std.specs.FinMap.Entries.{is_sorted}
 use Rattle.cat_table.specs.Table.{Text, get, keys, same_text, text_cmp}
 use Rattle.cat_types.specs.declared.parts.Parts.{Parts}
@@ -19,6 +19,10 @@ use Rattle.cat_model.specs.Catalogue.{Ref, Rules, emits, from_source, held, outp
 pub record AreLinked (rules : Rules) (links : Emitted) (m : State) : Type 0 where
   pub in_order : T (is_sorted text_cmp links)
   pub each : (e : Ref) → emitted_by links e ≡ emits rules e (output_of m.records e)
+
+-- each of these sources has other relations in the later links
+abbrev pub AreApart : Emitted → Emitted → List Text → Type 0
+AreApart links links' sources = (source : Text) → Contains sources source → relations_of links' source ≢ relations_of links source
 
 -- whether this is the reference that an event is about
 abbrev pub is_own : Option Ref → Ref → Bool

@@ -1,6 +1,8 @@
 //! The marks, documents and tickets that follow from a change, asked of what it reaches.
 ghost use Rattle.std.specs.Prelude.{◌≡◌, ◌+◌, ◌≤◌, ◌^◌, ◌++◌, ◌&&◌, not, [], IfOk, Option, Bool, is_some, length, option_map};
 ghost use Rattle.std.specs.List.{filter};
+ghost use Rattle.std.specs.List.Sorted.{IsStrictlySortedBy};
+ghost use Rattle.std.proofs.Props.{props};
 ghost use Rattle.cat_table.specs.Order.{in_order};
 ghost use Rattle.cat_table.specs.Table.{get, text_cmp};
 ghost use Rattle.cat_links.specs.Changes.{AreChanged};
@@ -8,14 +10,14 @@ ghost use Rattle.cat_model.specs.declared.types.State.{State};
 ghost use Rattle.cat_model.specs.Catalogue.{frame, reheld, rerecorded, same_option, tickets};
 ghost use Rattle.cat_model.specs.Sound.{AreOrdered, Sound};
 ghost use Rattle.cat_frame.specs.Amended.{amended};
-ghost use Rattle.cat_frame.specs.Linked.{AreLinked, linked_parts};
+ghost use Rattle.cat_frame.specs.Linked.{AreApart, AreLinked, linked_parts};
 ghost use Rattle.cat_frame.specs.Following.{document_goes, has_parts_now, mark_goes, own_refs, parts_moved, parts_now};
 ghost use Rattle.cat_frame.specs.Made.{AreReached, IsMade};
 
 use crate::amended::{Amendment, count_of, numbered};
 use crate::change::{Change, kept_now, reached};
 use crate::orphan_plan::{is_orphan_now, orphan_now};
-use crate::parts::parts_of;
+use crate::parts::{is_relinked, parts_of};
 use cat_hold::build::{Passes, filtered};
 use cat_hold::layers::Layers;
 use cat_hold::parts::same_option_parts;
@@ -65,26 +67,45 @@ fn has_parts_now(change: &Change<'_>, reference: &Ref) -> bool
     }
 }
 
+// Whether a reference has parts after the change that aren't those before it.
+fn has_moved<L: Layers>(
+    alloc: Global,
+    layers: &L,
+    change: &Change<'_>,
+    plan: &LinkPlan,
+    reference: &Ref,
+) -> Result<bool, AllocError>
+    requires rises { IsStrictlySortedBy text_cmp plan.now.changed }
+    requires apart { AreApart change.now.links.now plan.now.after plan.now.changed }
+    ensures { IfOk result (λ b. b ≡ parts_moved L.rules change.now.links.now plan.now.after change.now.how change.now.own.now change.now.m.now change.now.holders.now reference.now) }
+{
+    if is_relinked(plan, reference, kept_now(change, reference)) {
+        return Ok(true);
+    }
+    let now = parts_now(alloc, layers, change, plan, reference)?;
+    if now.is_none() {
+        return Ok(false);
+    }
+    let orphan = change.m.orphans.get(reference);
+    let kept = change.m.records.get(reference);
+    let then = parts_of(alloc, layers, change.links, reference, orphan, kept)?;
+    Ok(!same_option_parts(layers, &then, &now))
+}
+
 #[derive(Drop)]
 struct HasMoved<'l, 'c, 'p, L> {
     layers: &'l L,
     change: &'c Change<'c>,
     plan: &'p LinkPlan,
+    ghost rises: { IsStrictlySortedBy text_cmp plan.now.changed } by { Prim.hlevel props },
+    ghost apart: { AreApart change.now.links.now plan.now.after plan.now.changed },
 }
 
 impl<L: Layers> Passes<Ref> for HasMoved<'_, '_, '_, L> {
     ghost passes = { λ s r. parts_moved L.rules s.change.now.links.now s.plan.now.after s.change.now.how s.change.now.own.now s.change.now.m.now s.change.now.holders.now r };
 
     fn test(&self, alloc: Global, key: &Ref) -> Result<bool, AllocError> {
-        let (layers, change) = (self.layers, self.change);
-        let now = parts_now(alloc, layers, change, self.plan, key)?;
-        if now.is_none() {
-            return Ok(false);
-        }
-        let orphan = change.m.orphans.get(key);
-        let kept = change.m.records.get(key);
-        let then = parts_of(alloc, layers, change.links, key, orphan, kept)?;
-        Ok(!same_option_parts(layers, &then, &now))
+        has_moved(alloc, self.layers, self.change, self.plan, key)
     }
 }
 
@@ -122,6 +143,8 @@ fn moved<L: Layers>(
     plan: &LinkPlan,
     asked: &[Ref],
 ) -> Result<Listing<Ref>, AllocError>
+    requires rises { IsStrictlySortedBy text_cmp plan.now.changed }
+    requires apart { AreApart change.now.links.now plan.now.after plan.now.changed }
     ensures { IfOk result (λ l. l ≡ filter (parts_moved L.rules change.now.links.now plan.now.after change.now.how change.now.own.now change.now.m.now change.now.holders.now) asked.now) }
 {
     let has_moved = HasMoved {

@@ -1,18 +1,23 @@
 //! The marks and documents that follow from a change.
 ghost use Rattle.std.specs.Prelude.{◌≡◌, ◌+◌, ◌<◌, ◌≤◌, ◌^◌, ◌++◌, ◌&&◌, not, cond, IfOk, Option, Bool, is_none, is_some, option_map, option_and_then};
 ghost use Rattle.std.specs.List.{list_any};
+ghost use Rattle.std.specs.List.Sorted.{IsStrictlySortedBy};
+ghost use Rattle.std.specs.declared.option.Option.TheVariants.{Some};
+ghost use Rattle.std.proofs.Props.{props};
 ghost use Rattle.cat_table.specs.Table.{find, get, keys, place, same_text, tabulate, text_cmp};
 ghost use Rattle.cat_hold.specs.Parts.{has_parts};
 ghost use Rattle.cat_links.specs.Changes.{AreChanged};
 ghost use Rattle.cat_frame.specs.Linked.{AreLinked, AreRecorded, LeavesOthers, is_candidate, is_own, moved, same_sort};
 ghost use Rattle.cat_frame.specs.Marks.{marked, marked_with, with_parts};
-ghost use Rattle.cat_model.specs.Catalogue.{changed_refs, known_refs, remarked, same_option};
+ghost use Rattle.cat_model.specs.Catalogue.{changed_refs, known_refs, remarked, same_option, tickets as tickets_from};
 
+use crate::amended::{count_of, numbered};
+use crate::order::{in_order, is_among};
 use crate::parts::parts_of;
-use crate::records::{both_keys, count_of, place_of};
+use crate::records::both_keys;
 use cat_hold::build::{Gives, Passes, filtered, tabulated};
 use cat_hold::layers::Layers;
-use cat_hold::parts::{Present, has_parts, same_option_parts};
+use cat_hold::parts::{has_parts, same_option_parts};
 use cat_links::links::{LinkPlan, Links};
 use cat_model::types::State;
 use cat_ref::reference::Ref;
@@ -28,19 +33,7 @@ pub fn all_refs(alloc: Global, m: &State) -> Result<Listing<Ref>, AllocError>
     ensures { IfOk result (λ l. l ≡ known_refs m.now) }
 {
     let all = both_keys(alloc, &m.records, &m.orphans)?;
-    let sorted = tabulated(alloc, all.as_slice(), &Present)?;
-    sorted.keys(alloc)
-}
-
-fn is_among(refs: &[Ref], reference: &Ref) -> bool
-    ensures { result ≡ list_any (same_text reference.now) refs.now }
-{
-    for other in refs {
-        if reference.compare(other) == Ordering::Equal {
-            return true;
-        }
-    }
-    false
+    Ok(Listing::from_vec(in_order(all.into_vec())))
 }
 
 fn is_own(own: &Option<Ref>, reference: &Ref) -> bool
@@ -68,6 +61,7 @@ struct Change<'a> {
     links: &'a Links,
     n: &'a State,
     plan: &'a LinkPlan,
+    ghost rises: { IsStrictlySortedBy text_cmp plan.now.changed } by { Prim.hlevel props },
 }
 
 // Whether the parts of a reference may differ.
@@ -151,7 +145,25 @@ struct MarkAfter<'a> {
     first: u64,
     n: &'a State,
     changed: &'a Listing<Ref>,
-    ghost small: { first ≤ 2 ^ 59 },
+    tickets: &'a Table<Ref, u64>,
+    ghost ticketed: { tickets.now ≡ tickets_from first changed.now },
+}
+
+// The mark that a reference has.
+fn mark_of(n: &State, reference: &Ref) -> Option<u64>
+    ensures { result ≡ get n.now.marks reference.now }
+{
+    n.marks.get(reference).copied()
+}
+
+// The ticket that a reference draws, or else the mark that it has. The ticket is looked up by halving.
+fn mark_drawn(after: &MarkAfter<'_>, reference: &Ref) -> Option<u64>
+    ensures { result ≡ cond (list_any (same_text reference.now) after.now.changed.now) (Some (after.now.first + place text_cmp reference.now after.now.changed.now)) (get after.now.n.now.marks reference.now) }
+{
+    match after.tickets.get(reference) {
+        Some(ticket) => Some(*ticket),
+        None => mark_of(after.n, reference),
+    }
 }
 
 impl Gives<Ref, u64> for MarkAfter<'_> {
@@ -161,12 +173,7 @@ impl Gives<Ref, u64> for MarkAfter<'_> {
         if !has_parts(self.n, key) {
             return Ok(None);
         }
-        if is_among(self.changed.as_slice(), key) {
-            let ticket = self.first + place_of(key, self.changed.as_slice()) as u64;
-            Ok(Some(ticket))
-        } else {
-            Ok(self.n.marks.get(key).copied())
-        }
+        Ok(mark_drawn(self, key))
     }
 }
 
@@ -198,11 +205,13 @@ fn marked_state(alloc: Global, n: State, moved: &Listing<Ref>) -> Result<State, 
     ensures { IfOk result (λ x. x ≡ marked_with moved.now n) }
 {
     let all = all_refs(alloc, &n)?;
+    let tickets = Table::from_vec(numbered(alloc, n.ticket, moved.as_slice())?);
     let marks = {
         let after = MarkAfter {
             first: n.ticket,
             n: &n,
             changed: moved,
+            tickets: &tickets,
         };
         tabulated(alloc, all.as_slice(), &after)?
     };

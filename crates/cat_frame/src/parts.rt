@@ -1,13 +1,17 @@
 //! The parts of a reference's document, with the relations that the links give.
-ghost use Rattle.std.specs.Prelude.{◌≡◌, ◌++◌, IfOk, Option, option_map};
-ghost use Rattle.cat_table.specs.Table.{get};
+ghost use Rattle.std.specs.Prelude.{◌≡◌, ◌++◌, ◌&&◌, IfOk, Option, is_some, option_map};
+ghost use Rattle.std.specs.List.{list_any};
+ghost use Rattle.std.specs.List.Sorted.{IsStrictlySortedBy};
+ghost use Rattle.std.specs.Option.{option_and_then};
+ghost use Rattle.cat_table.specs.Table.{get, same_text, text_cmp};
 ghost use Rattle.cat_links.specs.Links.{relations_of};
 ghost use Rattle.cat_frame.specs.Linked.{AreLinked, AreRecorded, linked_from, linked_orphan, linked_record};
 ghost use Rattle.cat_model.specs.Catalogue.{parts};
 
+use crate::order::is_among;
 use cat_hold::layers::Layers;
 use cat_hold::parts::{append, relations_from};
-use cat_links::links::Links;
+use cat_links::links::{LinkPlan, Links};
 use cat_model::types::{Orphan, Record, State};
 use cat_ref::reference::Ref;
 use cat_table::listing::{Copied, Listing};
@@ -105,4 +109,22 @@ pub fn present_parts<L: Layers>(
         m.orphans.get(reference),
         m.records.get(reference),
     )
+}
+
+fn has_output(kept: Option<&Record>) -> bool
+    ensures { result ≡ is_some (option_and_then (λ x. x.output) (option_map (λ x. x.now) kept.entry)) }
+{
+    match kept {
+        None => false,
+        Some(kept) => kept.output.is_some(),
+    }
+}
+
+/// Whether a reference has other relations after the plan of the links than before, and an output in this record. Then its parts
+/// differ, and none need be made to compare them.
+pub fn is_relinked(plan: &LinkPlan, reference: &Ref, kept: Option<&Record>) -> bool
+    requires { IsStrictlySortedBy text_cmp plan.now.changed }
+    ensures { result ≡ (list_any (same_text reference.now) plan.now.changed && is_some (option_and_then (λ x. x.output) (option_map (λ x. x.now) kept.entry))) }
+{
+    is_among(plan.changed(), reference) && has_output(kept)
 }

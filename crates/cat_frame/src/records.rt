@@ -2,19 +2,18 @@
 ghost use Rattle.std.specs.Prelude.{◌≡◌, ◌+◌, ◌<◌, ◌≤◌, ◌^◌, ◌++◌, ◌&&◌, IfOk, Option, Bool, is_none, is_some, length};
 ghost use Rattle.std.specs.declared.option.Option.TheVariants.{Some};
 ghost use Rattle.cat_table.specs.Table.{get, keys, place, text_cmp};
-ghost use Rattle.cat_model.specs.Catalogue.{fresh_refs, held, orphan_after, orphan_from_record, new_record, record_after, rerecorded, same_option, work};
+ghost use Rattle.cat_model.specs.Catalogue.{fresh_refs, held, orphan_after, orphan_from_record, new_record, record_after, rerecorded, same_option, tickets, work};
 
+use crate::amended::{count_of, numbered};
 use cat_hold::build::{Gives, Passes, filtered, tabulated};
 use cat_hold::hold::is_held;
 use cat_hold::layers::Layers;
 use cat_hold::parts::{append, same_work_of};
 use cat_model::types::{Leaving, Orphan, Record, State};
 use cat_ref::reference::Ref;
-use cat_table::key::Key;
 use cat_table::listing::{Copied, Listing};
 use cat_types::table::Table;
 use std::alloc::{AllocError, Global};
-use std::cmp::Ordering;
 
 #[derive(Drop)]
 struct IsNew<'a> {
@@ -37,27 +36,16 @@ fn new_refs(alloc: Global, n: &State, holders: &Table<Ref, u64>) -> Result<Listi
     filtered(alloc, all.as_slice(), &is_new)
 }
 
-/// How many references stand before one.
-pub fn place_of(reference: &Ref, refs: &[Ref]) -> usize
-    ensures place { result ≡ place text_cmp reference.now refs.now }
-    ensures small { result < 2 ^ 63 }
+// The number that a reference draws, where these references draw the numbers from this one on. It is looked up by halving.
+fn drawn_number(first: u64, refs: &Listing<Ref>, numbers: &Table<Ref, u64>, reference: &Ref) -> u64
+    requires small { first ≤ 2 ^ 59 }
+    requires numbered { numbers.now ≡ tickets first refs.now }
+    ensures { result ≡ first + place text_cmp reference.now refs.now }
 {
-    let mut before = 0;
-    for other in refs {
-        if reference.compare(other) == Ordering::Equal {
-            break;
-        }
-        before += 1;
+    match numbers.get(reference) {
+        Some(number) => *number,
+        None => first + count_of(refs.as_slice()) as u64,
     }
-    before
-}
-
-/// How many references there are.
-pub fn count_of(refs: &[Ref]) -> usize
-    ensures count { result ≡ length refs.now }
-    ensures small { result < 2 ^ 63 }
-{
-    refs.len()
 }
 
 // A record that is new and due at once.
@@ -81,7 +69,9 @@ struct RecordAfter<'a, L> {
     h: &'a State,
     first: u64,
     fresh: &'a Listing<Ref>,
+    numbers: &'a Table<Ref, u64>,
     ghost small: { first ≤ 2 ^ 59 },
+    ghost numbered: { numbers.now ≡ tickets first fresh.now },
 }
 
 impl<L: Layers> Gives<Ref, Record> for RecordAfter<'_, L> {
@@ -92,7 +82,7 @@ impl<L: Layers> Gives<Ref, Record> for RecordAfter<'_, L> {
             None => {
                 let number = match self.n.orphans.get(key) {
                     Some(orphan) => orphan.number,
-                    None => self.first + place_of(key, self.fresh.as_slice()) as u64,
+                    None => drawn_number(self.first, self.fresh, self.numbers, key),
                 };
                 Ok(Some(fresh_record(alloc, number)))
             }
@@ -178,6 +168,7 @@ pub fn rerecorded_state<L: Layers>(
     ensures { IfOk result (λ x. x ≡ rerecorded L.rules how m.now n.now h) }
 {
     let fresh = new_refs(alloc, n, &h.holders)?;
+    let numbers = Table::from_vec(numbered(alloc, n.number, fresh.as_slice())?);
     let names = h.holders.keys(alloc)?;
     let records = {
         let after = RecordAfter {
@@ -187,6 +178,7 @@ pub fn rerecorded_state<L: Layers>(
             h: &h,
             first: n.number,
             fresh: &fresh,
+            numbers: &numbers,
         };
         tabulated(alloc, names.as_slice(), &after)?
     };

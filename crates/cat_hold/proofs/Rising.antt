@@ -1,14 +1,18 @@
 -- Keys that rise: each next to the one after it, and what is tabulated from them.
-use Rattle.std.proofs.Common.{◌≡◌, ℕ, zero, suc, ◌+◌, ◌<◌, ◌≤◌, List, [], ◌∷◌, length, drop, take, get_or, ◌++◌, refl, sym, ap, subst, ◌∙◌, Ordering, Less, arith}
+use Rattle.std.proofs.Common.{◌≡◌, ℕ, zero, suc, ◌+◌, ◌<◌, ◌≤◌, List, [], ◌∷◌, length, drop, take, get_or, ◌++◌, cond, refl, sym, ap, subst, ◌∙◌, Ordering, Less, arith}
 use Rattle.std.specs.declared.option.Option.{Option}
 use Rattle.std.specs.declared.option.Option.TheVariants.{None, Some}
 use Rattle.std.specs.Cmp.{IsTotalOrder}
+use Rattle.std.specs.FinMap.{IsAntisymmetric}
 use Rattle.std.specs.FinMap.Entries.{by_order}
 use Rattle.std.specs.List.{AllByRecursion, cons_option, filter_map}
 use Rattle.std.specs.List.Sorted.{IsStrictlySortedBy}
 use Rattle.std.proofs.lemmas.List.{drop_more, take_more}
 use Rattle.std.proofs.lemmas.List.Elements.{filter_map-append}
+use Rattle.cat_table.specs.Order.{in_order}
 use Rattle.cat_table.specs.Table.{put, put_some, tabulate}
+use Rattle.cat_table.proofs.Orders.{has-in_order}
+use Rattle.cat_table.proofs.Tables.{find-tabulate, same_tabulated}
 
 -- the entry of a key and a value, if there is one
 abbrev pub with_key : {K X : Type 0} → K → Option X → Option (K × X)
@@ -79,3 +83,11 @@ module _ {K X : Type 0} (R : K → K → Ordering) (f : K → Option X) where
       go : (w : Option X) → put_some R k w (filter_map (entry f) ks) ≡ cons_option (with_key k w) (filter_map (entry f) ks)
       go None = refl
       go (Some v) = put_front k v ks h.0
+
+-- ---- keys that are put in order first
+
+-- in order or not, keys are tabulated to the same
+pub tabulate-in_order : {K X : Type 0} {R : K → K → Ordering} → IsTotalOrder R → IsAntisymmetric R → (ks : List K) (f : K → Option X) → tabulate R (in_order R ks) f ≡ tabulate R ks f
+tabulate-in_order {R = R} o s ks f =
+    same_tabulated o s (in_order R ks) ks f f
+    (λ q. find-tabulate o s q (in_order R ks) f ∙ (ap (λ b. cond b (f q) None) (has-in_order o s q ks) ∙ sym (find-tabulate o s q ks f)))

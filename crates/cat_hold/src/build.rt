@@ -2,6 +2,7 @@
 ghost use Rattle.std.specs.Prelude.{◌≡◌, true, IfOk};
 ghost use Rattle.std.specs.List.{filter};
 ghost use Rattle.std.specs.List.Sorted.{IsStrictlySortedBy};
+ghost use Rattle.cat_table.specs.Order.{in_order};
 ghost use Rattle.cat_table.specs.Table.{first, tabulate};
 
 use cat_table::key::Key;
@@ -64,30 +65,33 @@ fn in_turn<K: Key + Copied + Drop, X: Drop, F: Gives<K, X>>(
     Ok(Table::from_vec(made))
 }
 
-// Keys in whatever order, the last one first, since of keys that tie the first counts.
-fn from_the_end<K: Key + Copied + Drop, X: Drop, F: Gives<K, X>>(
+// Copies of the keys in order, each once.
+fn in_order<K: Key + Copied + Drop>(alloc: Global, keys: &[K]) -> Result<Vec<K>, AllocError>
+    ensures { IfOk result (λ ks. ks.items ≡ in_order K.order keys.now) }
+{
+    let mut sorted = Vec::new(alloc);
+    for key in keys {
+        sorted.push(key.duplicate(alloc)?)?;
+    }
+    sorted.sort_unstable_by(|left, right| left.compare(right));
+    sorted.dedup_by(|later, earlier| later.compare(earlier) == Ordering::Equal);
+    Ok(sorted)
+}
+
+// Keys in whatever order are put in order first.
+fn out_of_turn<K: Key + Copied + Drop, X: Drop, F: Gives<K, X>>(
     alloc: Global,
     keys: &[K],
     f: &F,
 ) -> Result<Table<K, X>, AllocError>
     ensures { IfOk result (λ t. t ≡ tabulate K.order keys.now (F.gives f.now)) }
 {
-    let mut made = Table::new(alloc);
-    let mut left = keys.len();
-    while left > 0 {
-        left -= 1;
-        match f.give(alloc, &keys[left])? {
-            Some(value) => {
-                let key = keys[left].duplicate(alloc)?;
-                made.put(key, value)?;
-            }
-            None => {}
-        }
-    }
-    Ok(made)
+    let sorted = in_order(alloc, keys)?;
+    in_turn(alloc, sorted.as_slice(), f)
 }
 
-/// The table of the values that the function gives these keys, in order of the keys; a key without a value is left out.
+/// The table of the values that the function gives these keys, in order of the keys; a key without a value is left out. Keys
+/// that rise are asked as they stand, others are sorted first.
 pub fn tabulated<K: Key + Copied + Drop, X: Drop, F: Gives<K, X>>(
     alloc: Global,
     keys: &[K],
@@ -98,7 +102,7 @@ pub fn tabulated<K: Key + Copied + Drop, X: Drop, F: Gives<K, X>>(
     if rise(keys) {
         in_turn(alloc, keys, f)
     } else {
-        from_the_end(alloc, keys, f)
+        out_of_turn(alloc, keys, f)
     }
 }
 

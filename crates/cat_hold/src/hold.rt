@@ -1,16 +1,17 @@
 //! Which row holds each reference.
-ghost use Rattle.std.specs.Prelude.{◌≡◌, IfOk, ℕ, Bool, Option, option_map, option_and_then, length, [], is_some, ◌++◌};
+ghost use Rattle.std.specs.Prelude.{◌≡◌, ◌≤◌, IfOk, IfSome, ℕ, Bool, Option, option_map, option_and_then, length, [], is_some, ◌++◌};
 ghost use Rattle.std.specs.Ordering.{nat_cmp};
 ghost use Rattle.std.specs.declared.option.Option.TheVariants.{None, Some};
 ghost use Rattle.std.specs.List.{cons_option, filter_map};
 ghost use Rattle.cat_table.specs.Table.{find, get, keys};
-ghost use Rattle.cat_hold.specs.Claims.{HasClaimed, IsNext};
+ghost use Rattle.cat_hold.specs.Claims.{AreWaiting, HasClaimed, IsNext, NoneBefore, with_origin};
 ghost use Rattle.cat_model.specs.Catalogue.{claim, claims, held, hold, holding, holding_arrivals, may_offer, rehold, row_at, standing, with_origin_held};
 
 use crate::build::{Gives, Passes, first_of, tabulated};
 use cat_model::types::{Origin, Row};
 use cat_ref::reference::Ref;
 use cat_table::listing::Copied;
+use cat_table::map::Map;
 use cat_types::table::Table;
 use std::alloc::{AllocError, Global};
 
@@ -54,24 +55,68 @@ fn may_claim(rows: &Table<u64, Row>, holders: &Table<Ref, u64>, arrival: u64) ->
     }
 }
 
-// Takes the first of these rows that may claim its reference out of the list: once it holds, it never claims again.
+// The first place from this one on whose row may claim its reference, with the row's arrival.
 fn next_claim(
     rows: &Table<u64, Row>,
     holders: &Table<Ref, u64>,
-    ready: &mut Vec<u64>,
-) -> Option<u64>
-    ensures { IsNext (λ a. claims holders.now (row_at rows.now a)) ready.old.items result ready.new.items }
+    ready: &[u64],
+    from: usize,
+) -> Option<(usize, u64)>
+    requires { NoneBefore (λ a. claims holders.now (row_at rows.now a)) from ready.now }
+    ensures { IsNext (λ a. claims holders.now (row_at rows.now a)) ready.now result }
 {
-    let mut place = 0;
+    let mut place = from;
     while place < ready.len() {
         let arrival = ready[place];
         if may_claim(rows, holders, arrival) {
-            ready.remove(place);
-            return Some(arrival);
+            return Some((place, arrival));
         }
         place += 1;
     }
     None
+}
+
+// Of each reference that is the origin of rows in a list, the place of the first of them.
+type Waiting = Map<Ref, usize>;
+
+// Notes the place of a row whose origin isn't noted yet.
+fn note_origin(
+    alloc: Global,
+    row: Option<&Row>,
+    place: usize,
+    waiting: &mut Waiting,
+) -> Result<(), AllocError>
+    ensures { IfOk result (λ _. waiting.new ≡ with_origin (option_map (λ x. x.now) row.entry) place waiting.old) }
+{
+    match row {
+        None => Ok(()),
+        Some(row) => match &row.origin {
+            Origin::Provider(_) => Ok(()),
+            Origin::Entity(e) => {
+                if waiting.get(e).is_some() {
+                    return Ok(());
+                }
+                waiting.put(alloc, e.duplicate(alloc)?, place)
+            }
+        },
+    }
+}
+
+// Of each reference that is the origin of one of these rows, the place of the first.
+fn waiting_of(
+    alloc: Global,
+    rows: &Table<u64, Row>,
+    arrivals: &[u64],
+) -> Result<Waiting, AllocError>
+    ensures { IfOk result (λ w. AreWaiting rows.now arrivals.now w) }
+{
+    let mut waiting = Map::new();
+    let mut place = 0;
+    for arrival in arrivals {
+        note_origin(alloc, rows.get(arrival), place, &mut waiting)?;
+        place += 1;
+    }
+    Ok(waiting)
 }
 
 // The row, where there is one, holds its reference.
@@ -89,25 +134,45 @@ fn take_hold(
     }
 }
 
-// Whether one of these rows claims its reference; the first that may does.
-fn claim_once(
-    alloc: Global,
-    rows: &Table<u64, Row>,
-    ready: &mut Vec<u64>,
-    holders: &mut Table<Ref, u64>,
-) -> Result<bool, AllocError>
-    ensures { IfOk result (λ claimed. HasClaimed rows.now ready.old.items holders.old claimed ready.new.items holders.new) }
+// The place where the search goes on once a row holds: rows that wait for its reference may claim then.
+fn place_after(waiting: &Waiting, row: Option<&Row>, place: usize) -> usize
+    ensures back { result ≤ place }
+    ensures first { IfSome (option_and_then (λ x. get waiting.now x.reference) (option_map (λ x. x.now) row.entry)) (λ k. result ≤ k) }
 {
-    match next_claim(rows, holders, ready) {
-        Some(arrival) => {
-            take_hold(alloc, arrival, rows.get(&arrival), holders)?;
-            Ok(true)
-        }
-        None => Ok(false),
+    match row {
+        None => place,
+        Some(row) => match waiting.get(&row.reference) {
+            None => place,
+            Some(first) => { if *first < place { *first } else { place } }
+        },
     }
 }
 
-// As long as one of these rows may claim its reference, the first of them does.
+// One of these rows claims its reference, the first that may. Answers where the search for the next one begins.
+fn claim_once(
+    alloc: Global,
+    rows: &Table<u64, Row>,
+    waiting: &Waiting,
+    ready: &[u64],
+    from: usize,
+    holders: &mut Table<Ref, u64>,
+) -> Result<Option<usize>, AllocError>
+    requires waiting { AreWaiting rows.now ready.now waiting.now }
+    requires none { NoneBefore (λ a. claims holders.old (row_at rows.now a)) from ready.now }
+    ensures { IfOk result (λ next. HasClaimed rows.now ready.now holders.old next holders.new) }
+{
+    match next_claim(rows, holders, ready, from) {
+        Some((place, arrival)) => {
+            let row = rows.get(&arrival);
+            take_hold(alloc, arrival, row, holders)?;
+            Ok(Some(place_after(waiting, row, place)))
+        }
+        None => Ok(None),
+    }
+}
+
+// As long as one of these rows may claim its reference, the first of them does. The search goes on where it was, unless a row
+// before that waits for what is newly held.
 fn claimed(
     alloc: Global,
     most: usize,
@@ -117,12 +182,15 @@ fn claimed(
 ) -> Result<Table<Ref, u64>, AllocError>
     ensures { IfOk result (λ h. h ≡ claim most rows.now arrivals.items holders) }
 {
-    let mut ready = arrivals;
+    let ready = arrivals.as_slice();
+    let waiting = waiting_of(alloc, rows, ready)?;
     let mut holders = holders;
+    let mut place = 0;
     let mut left = most;
     while left > 0 {
-        if !claim_once(alloc, rows, &mut ready, &mut holders)? {
-            return Ok(holders);
+        match claim_once(alloc, rows, &waiting, ready, place, &mut holders)? {
+            Some(next) => place = next,
+            None => return Ok(holders),
         }
         left -= 1;
     }

@@ -17,10 +17,10 @@ use Rattle.cat_model.specs.declared.types.StitchOrder.{StitchOrder}
 use Rattle.cat_model.specs.declared.types.Settings.{Settings}
 use Rattle.cat_model.specs.declared.types.Leaving.{Leaving}
 use Rattle.cat_model.specs.declared.types.Origin.TheVariants.{Provider, Entity}
-use Rattle.cat_model.specs.declared.types.Leaving.TheVariants.{Deleted, Orphaned}
+use Rattle.cat_model.specs.declared.types.Leaving.TheVariants.{Deleted}
 use Rattle.cat_model.specs.Catalogue.{Ref, Rules, frame, reheld, rerecorded, fresh_refs, changed_refs}
 use Rattle.cat_model.specs.Sound.{AreBegun, AreSmall}
-use Rattle.cat_model.specs.Step.{add_offer, add_offers, has_row, row_after, replaced, mutated_state, mutate, items_after, source_at, refresh, take, take_next, next_taken, forgotten, forget, forget_at, ref_at, finished_record, finished_state, finish, is_present, is_present_stitch, put_stitch, with_record, without_key, Event, change, refusal, step, run, start, reopened}
+use Rattle.cat_model.specs.Step.{add_offer, add_offers, has_row, row_after, replaced, mutated_state, mutate, items_after, source_at, refresh, take, take_next, next_taken, forgotten, forget, forget_at, ref_at, finished_record, finished_state, leaving, finish, is_present, is_present_stitch, put_stitch, with_record, without_key, Event, change, refusal, step, run, start, reopened}
 use Rattle.cat_model.specs.Step.Event.{Mutate, ShelfPut, ShelfDrop, Refresh, Forget, ForgetNumber, Take, TakeAt, Finish, PutStitch}
 
 -- the counters of n are at least those of m
@@ -121,7 +121,7 @@ module _ (rules : Rules) (s : Settings) where
   finish_grows : (order : Order) (now : ℕ) (m : State) (v : Option Record) → Grows m (finish rules s order now m v)
   finish_grows order now m None = same_counters m
   finish_grows order now m (Some x) = at_cond (Grows m) (is_present rules m order x) _ m
-      (grows_on m (finished_state s order.reference now x (rules.result order.work) m) _ (finished_grows order.reference now x (rules.result order.work) m) (framed_grows Orphaned m _)) (same_counters m)
+      (grows_on m (finished_state s order.reference now x (rules.result order.work) m) _ (finished_grows order.reference now x (rules.result order.work) m) (framed_grows (leaving s.orphans) m _)) (same_counters m)
 
   put_stitch_grows : (order : StitchOrder) (m : State) → Grows m (put_stitch rules order m)
   put_stitch_grows order m = at_cond (Grows m) (is_present_stitch rules m order) _ m

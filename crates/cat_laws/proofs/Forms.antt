@@ -36,7 +36,7 @@ use Rattle.cat_model.specs.declared.types.ProviderInputs.{ProviderInputs}
 use Rattle.cat_model.specs.Catalogue.{Ref, Offers, Rules, Rows, row_at, held, holding, work, work_of, parts, same_option, frame, reheld, rerecorded, record_after, fresh_refs, orphan_after, orphan_from_record, orphan_from_output, mark_after, document_after, changed_refs, known_refs, due_now, parts_from, parts_of_record, records_emit}
 use Rattle.cat_model.specs.Sound.{AreSmall, Sound, its_number, number_in, offered}
 use Rattle.cat_model.specs.Formed.{FormRules, IsPartsOf, IsWorkOf, IsSource, IsKept, Formed, IsFormedGiven, IsFormedEvent, AreFormedEvents}
-use Rattle.cat_model.specs.Step.{row_after, add_offer, add_offers, has_row, replaced, put_all, without, source_at, items_after, leased, with_record, without_key, forgotten, finished_record, finished_state, has_token, is_present, finish, mutated_state, refresh, take, take_next, next_taken, forget, forget_at, ref_at, is_present_stitch, put_stitch, Event, change, refusal, step, run, start, reopened}
+use Rattle.cat_model.specs.Step.{row_after, add_offer, add_offers, has_row, replaced, put_all, without, source_at, items_after, leased, with_record, without_key, forgotten, finished_record, finished_state, leaving, has_token, is_present, finish, mutated_state, refresh, take, take_next, next_taken, forget, forget_at, ref_at, is_present_stitch, put_stitch, Event, change, refusal, step, run, start, reopened}
 use Rattle.cat_model.specs.Step.Event.{Mutate, ShelfPut, ShelfDrop, Refresh, Forget, ForgetNumber, Take, TakeAt, Finish, PutStitch}
 use Rattle.cat_model.specs.Settle.{IsSettleEvent, AreSettleEvents, try_settle, width, not_begun}
 use Rattle.cat_laws.proofs.Holding.{stood}
@@ -399,7 +399,7 @@ module _ (rules : Rules) (form : FormRules rules) where
     finish_form : (order : Order) (now : ℕ) (v : Option Record) → get m.records order.reference ≡ v → Formed form (finish rules s order now m v)
     finish_form order now None is = h
     finish_form order now (Some x) is = at_cond (Formed form) (is_present rules m order x) _ m
-        (λ present. framed_form Orphaned m (finished_state s order.reference now x (rules.result order.work) m)
+        (λ present. framed_form (leaving s.orphans) m (finished_state s order.reference now x (rules.result order.work) m)
         (base_finished order.reference now x is (rules.result order.work)
         (λ output issues good. result_form order.reference order.work
         (sym (same_option-is rules.same_work rules.same_work-is (Some order.work) (work rules m order.reference) (and_second (has_token order.token x.lease) _ present))) output issues good))) h

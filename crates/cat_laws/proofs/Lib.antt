@@ -19,4 +19,5 @@ pub mod Unchanged
 pub mod Repeats
 pub mod Forms
 pub mod Ordered
+pub mod Orphans
 pub mod Alone

@@ -10,12 +10,12 @@ use Rattle.cat_model.specs.declared.types.Order.{Order}
 use Rattle.cat_model.specs.declared.types.Record.{Record}
 use Rattle.cat_model.specs.declared.types.State.{State}
 use Rattle.cat_model.specs.declared.types.Leaving.{Leaving}
-use Rattle.cat_model.specs.declared.types.Leaving.TheVariants.{Deleted, Orphaned}
+use Rattle.cat_model.specs.declared.types.Leaving.TheVariants.{Deleted}
 use Rattle.cat_model.specs.declared.types.Settings.{Settings}
 use Rattle.cat_model.specs.declared.types.StitchOrder.{StitchOrder}
 use Rattle.cat_model.specs.Catalogue.{Ref, Rules, frame, held, parts, document_after, mark_after, changed_refs, known_refs, orphan_after, reheld, rerecorded, same_option}
 use Rattle.cat_model.specs.Sound.{AreOrdered}
-use Rattle.cat_model.specs.Step.{Event, change, finish, finished_state, forget, forget_at, forgotten, is_present, is_present_stitch, mutated_state, next_taken, put_stitch, ref_at, refresh, refusal, source_at, start, step, take, take_next, without_key}
+use Rattle.cat_model.specs.Step.{Event, change, finish, finished_state, leaving, forget, forget_at, forgotten, is_present, is_present_stitch, mutated_state, next_taken, put_stitch, ref_at, refresh, refusal, source_at, start, step, take, take_next, without_key}
 use Rattle.cat_model.specs.Step.Event.{Mutate, ShelfPut, ShelfDrop, Refresh, Forget, ForgetNumber, Take, TakeAt, Finish, PutStitch}
 
 -- what holds at both branches of a test
@@ -63,7 +63,7 @@ module _ (rules : Rules) (s : Settings) where
 
   finish_ordered : (order : Order) (now : ℕ) (m : State) (v : Option Record) → AreOrdered m → AreOrdered (finish rules s order now m v)
   finish_ordered order now m None h = h
-  finish_ordered order now m (Some x) h = at_cond (is_present rules m order x) _ m (framed_ordered Orphaned m (finished_state s order.reference now x (rules.result order.work) m)) h
+  finish_ordered order now m (Some x) h = at_cond (is_present rules m order x) _ m (framed_ordered (leaving s.orphans) m (finished_state s order.reference now x (rules.result order.work) m)) h
 
   put_stitch_ordered : (order : StitchOrder) (m : State) → AreOrdered m → AreOrdered (put_stitch rules order m)
   put_stitch_ordered order m h = at_cond (is_present_stitch rules m order) _ m

@@ -22,10 +22,9 @@ use Rattle.cat_model.specs.declared.types.Record.{Record}
 use Rattle.cat_model.specs.declared.types.State.{State}
 use Rattle.cat_types.specs.declared.work.Outcome.TheVariants.{Good, Bad}
 use Rattle.cat_model.specs.declared.types.Origin.TheVariants.{Provider, Entity}
-use Rattle.cat_model.specs.declared.types.Leaving.TheVariants.{Orphaned}
 use Rattle.cat_model.specs.Sound.{offered, Sound, Quiet, IsStitched}
 use Rattle.cat_model.specs.Step.Event.{TakeAt, Finish}
-use Rattle.cat_model.specs.Step.{change, same_origin, leased, with_record, finished_record, finished_state, has_token, is_present, finish, take, without_key, is_ticket, put_stitch}
+use Rattle.cat_model.specs.Step.{change, same_origin, leased, with_record, finished_record, finished_state, leaving, has_token, is_present, finish, take, without_key, is_ticket, put_stitch}
 use Rattle.cat_model.specs.declared.types.Settings.{Settings}
 use Rattle.cat_model.specs.declared.types.Order.{Order}
 use Rattle.cat_model.specs.declared.types.StitchOrder.{StitchOrder}
@@ -174,13 +173,13 @@ module _ (rules : Rules) (s : Settings) (now : ℕ) (later : 1 ≤ s.interval) w
     n = finished_state s q now x (rules.result w) m
 
     abbrev g : State
-    g = frame rules Orphaned m n
+    g = frame rules (leaving s.orphans) m n
 
     its_change : IsChange rules m n
     its_change = finish_change rules s m sound its_order now x at its_work (rules.result w) refl
 
     pub sound_finished : Sound rules g
-    sound_finished = framed rules Orphaned m n its_change
+    sound_finished = framed rules (leaving s.orphans) m n its_change
 
     pub its_order-is : order rules m q ≡ Some its_order
     its_order-is = ap (λ v. order_with q (option_and_then (λ (x : Record). x.lease) v) (work rules m q)) at ∙ ap (λ v. order_with q v (work rules m q)) has_lease ∙ ap (order_with q (Some lease)) its_work
@@ -241,7 +240,7 @@ module _ (rules : Rules) (s : Settings) (now : ℕ) (later : 1 ≤ s.interval) w
 
     -- and the same record, if it isn't q
     record_kept : (r : Ref) (z : Record) (row : Row) → get n.records r ≡ Some z → holding m.rows m.holders r ≡ Some row → holding g.rows g.holders r ≡ Some row → get g.records r ≡ Some z
-    record_kept r z row e h k = record_stays rules Orphaned m n its_change r z e (held_from g.rows g.holders r row k)
+    record_kept r z row e h k = record_stays rules (leaving s.orphans) m n its_change r z e (held_from g.rows g.holders r row k)
         (ap (option_map (λ (x : Row). work_of rules m.shelf x.offered.tree)) (h ∙ sym k))
 
     other_record : (r : Ref) → same_text r q ≡ false → get n.records r ≡ get m.records r

@@ -10,7 +10,7 @@ use Rattle.cat_model.specs.declared.types.Stop.TheVariants.{Refused, Limit}
 use Rattle.cat_model.specs.declared.types.Progress.{Progress}
 use Rattle.cat_model.specs.Catalogue.{Ref, Rules}
 use Rattle.cat_model.specs.Sound.{Sound, AreBegun, AreSmall}
-use Rattle.cat_model.specs.Step.{Event}
+use Rattle.cat_model.specs.Step.{Event, run}
 use Rattle.cat_model.specs.Settle.{width, not_begun, try_event, try_turn, try_turns, try_round, try_rounds, try_stitches, try_settle, IsSettleEvent, IsRefusedBy}
 use Rattle.cat_laws.proofs.Plan.{Plan, Tries, at_event, try_some, exec, turn_plan, turns_plan, round_plan, rounds_plan, stitches_plan, settle_plan, exec_turn, exec_turns, exec_round, exec_rounds, exec_stitches, exec_settle, exec_stopped}
 use Rattle.cat_laws.proofs.Plan.Plan.{idle, act, look, both, begins}
@@ -50,6 +50,12 @@ module _ (rules : Rules) (s : Settings) (now : ℕ) (limit : Option ℕ) where
 
   pub settle_keeps : (m : State) → Keeps (not_begun m) (try_settle rules s now limit m)
   settle_keeps m = subst (Keeps (not_begun m)) (exec_settle rules s now limit m) (extends_keeps (not_begun m) _ (exec_extends rules s now limit (settle_plan rules s now (width rules m)) (fits_settle rules s now (width rules m)) (not_begun m)))
+
+  -- a settle comes to where its events come to
+  pub settle_runs : (m : State) → (events : List Event) × ((try_settle rules s now limit m).state ≡ run rules s events m)
+  settle_runs m =
+      let x = exec_extends rules s now limit (settle_plan rules s now (width rules m)) (fits_settle rules s now (width rules m)) (not_begun m) in
+      (x.events, ap (λ (q : Progress). q.state) (sym (exec_settle rules s now limit m)) ∙ x.state)
 
   -- what is refused is an event of a settle
   refused_by : (plan : Plan) → Fits rules s now plan → (p : Progress) → p.stop ≡ None → (fault : Fault) → (exec rules s now limit plan p).stop ≡ Some (Refused fault) → IsRefusedBy rules s now (exec rules s now limit plan p).state fault

@@ -21,9 +21,9 @@ use Rattle.cat_model.specs.declared.types.Orphan.{Orphan}
 use Rattle.cat_model.specs.declared.types.State.{State}
 use Rattle.cat_types.specs.declared.work.Outcome.TheVariants.{Good, Bad}
 use Rattle.cat_model.specs.declared.types.Origin.TheVariants.{Provider, Entity}
-use Rattle.cat_model.specs.declared.types.Leaving.TheVariants.{Deleted, Orphaned}
+use Rattle.cat_model.specs.declared.types.Leaving.TheVariants.{Deleted}
 use Rattle.cat_model.specs.Sound.{offered, HasRow, AreOffers, Sound, IsRight, IsOutcome, IsStitched, number_in, its_number, AreNumbers, AreSmall}
-use Rattle.cat_model.specs.Step.{same_origin, put_all, without, source_at, items_after, mutated_state, Event, leased, with_record, without_key, forgotten, finished_record, finished_state, has_token, is_present, finish, mutate, refresh, take, forget, is_ticket, put_stitch, take_next, next_taken, forget_at, ref_at, refusal, change, step, run, start}
+use Rattle.cat_model.specs.Step.{same_origin, put_all, without, source_at, items_after, mutated_state, Event, leased, with_record, without_key, forgotten, finished_record, finished_state, leaving, has_token, is_present, finish, mutate, refresh, take, forget, is_ticket, put_stitch, take_next, next_taken, forget_at, ref_at, refusal, change, step, run, start}
 use Rattle.cat_model.specs.declared.types.Settings.{Settings}
 use Rattle.cat_model.specs.declared.types.Given.{Given}
 use Rattle.cat_model.specs.declared.types.Order.{Order}
@@ -385,7 +385,7 @@ module _ (rules : Rules) (s : Settings) where
   finish_kept : (m : State) → Holds m → (order : Order) (now : ℕ) (v : Option Record) → get m.records order.reference ≡ v → Holds (finish rules s order now m v)
   finish_kept m h order now None e = h
   finish_kept m h order now (Some x) e = at_cond Holds (is_present rules m order x) _ m
-      (λ is. framed rules Orphaned m (finished_state s order.reference now x (rules.result order.work) m)
+      (λ is. framed rules (leaving s.orphans) m (finished_state s order.reference now x (rules.result order.work) m)
       (finish_change m h order now x e (sym (same_option-is rules.same_work rules.same_work-is (Some order.work) (work rules m order.reference) (and_second (has_token order.token x.lease) _ is))) (rules.result order.work) refl)) h
 
   take_next_kept : (m : State) → Holds m → (now : ℕ) (v : Option Ref) → Holds (take_next s now m v)

@@ -1,24 +1,25 @@
 //! The laws of every run of the abstract catalogue.
 
-ghost use Rattle.std.specs.Prelude.{◌≡◌, ◌<◌, true, false, ℕ, List, Option, None, Some, is_some, ◌++◌, ◌∷◌, ◌^◌, length, IsNone, ◌*◌, ◌≤◌};
+ghost use Rattle.std.specs.Prelude.{◌≡◌, ◌<◌, true, false, ℕ, List, Option, None, Some, is_some, ◌++◌, ◌∷◌, [], ◌^◌, length, IsNone, ◌*◌, ◌≤◌};
 ghost use Rattle.cat_model.specs.Catalogue.{Holders, Rows, Rules, claim, rehold, Ref, parts, row_at, work};
 ghost use Rattle.cat_model.specs.declared.types.Row.{Row};
 ghost use Rattle.cat_types.specs.declared.parts.Parts.{Parts};
 ghost use Rattle.cat_types.specs.declared.work.Work.{Work};
 ghost use Rattle.cat_model.specs.declared.types.State.{State};
 ghost use Rattle.cat_model.specs.declared.types.Record.{Record};
-ghost use Rattle.cat_model.specs.Fresh.{IsFresh};
+ghost use Rattle.cat_model.specs.Fresh.{IsFresh, facts_of, fresh_docs};
 ghost use Rattle.cat_model.specs.declared.types.Fault.{Fault};
 ghost use Rattle.cat_model.specs.declared.types.Progress.{Progress};
 ghost use Rattle.cat_model.specs.declared.types.Stop.TheVariants.{Refused};
 ghost use Rattle.cat_model.specs.Reply.{StitchesNoLater, TakesNoLater, is_quiet, next_mark, next_stitch, taken};
 ghost use Rattle.cat_model.specs.Settle.{HasEvents, IsRefusedBy, IsSettle, SettleMore, StaySettled, is_ended, not_begun, try_round, try_rounds, try_settle, width};
-ghost use Rattle.cat_model.specs.Sound.{AreBegun, AreNamed, AreSmall, Quiet, Sound, rooted_holders};
+ghost use Rattle.cat_model.specs.Sound.{AreBegun, AreNamed, AreOrdered, AreSmall, MakesNoOrphan, Quiet, Sound, rooted_holders};
 ghost use Rattle.cat_table.specs.Table.{Text, get, keys};
 ghost use Rattle.cat_model.specs.declared.types.Given.{Given};
 ghost use Rattle.cat_model.specs.Formed.{AreFormedEvents, FormRules, Formed, IsPartsOf, IsWorkOf};
 ghost use Rattle.cat_model.specs.Step.{Event, last_serial, may_take, next_taken, refusal, reopened, run, start, step};
 ghost use Rattle.cat_model.specs.Step.Event.{Mutate};
+ghost use Rattle.cat_model.specs.declared.types.OrphanRule.TheVariants.{Delete};
 ghost use Rattle.cat_model.specs.declared.types.Settings.{Settings};
 
 /// What has to hold between two events holds of an empty catalogue, of each state after events and of each that was opened
@@ -34,6 +35,17 @@ pub fn sound_is_kept()
 /// inputs, those of orphans are of their parts, and its claims leave nothing out.
 pub fn quiet_is_fresh()
     ensures { (rules : Rules) (m : State) (now : ℕ) → Sound rules m → Quiet m now → IsFresh rules m }
+{}
+
+/// Under the rule that deletes what leaves, no event makes an orphan: each orphan after events was one before them. So a catalogue
+/// without orphans stays without, and whenever it is quiet its documents are just those computed afresh.
+pub fn deleting_makes_no_orphan()
+    ensures step { (rules : Rules) (settings : Settings) (m : State) (event : Event) → settings.orphans ≡ Delete → MakesNoOrphan m (step rules settings event m) }
+    ensures later { (rules : Rules) (settings : Settings) (m : State) (events : List Event) → settings.orphans ≡ Delete → MakesNoOrphan m (run rules settings events m) }
+    ensures settles { (rules : Rules) (settings : Settings) (m : State) (now : ℕ) (limit : Option ℕ) → settings.orphans ≡ Delete → MakesNoOrphan m (try_settle rules settings now limit m).state }
+    ensures none { (rules : Rules) (settings : Settings) (m : State) (events : List Event) → settings.orphans ≡ Delete → m.orphans ≡ [] → (run rules settings events m).orphans ≡ [] }
+    ensures quiet { (rules : Rules) (m : State) (now : ℕ) → Sound rules m → AreOrdered m → m.orphans ≡ [] → Quiet m now → m.documents ≡ fresh_docs rules (facts_of rules m) }
+    ensures reached { (rules : Rules) (settings : Settings) (events : List Event) (now : ℕ) → settings.orphans ≡ Delete → Quiet (run rules settings events start) now → (run rules settings events start).documents ≡ fresh_docs rules (facts_of rules (run rules settings events start)) }
 {}
 
 /// Each counter is at least 1 and at most 2^59 at every moment, so that each number drawn is at least 1 and below 2^59.

@@ -91,6 +91,10 @@ pub record AreOrdered (m : State) : Type 0 where
   pub marks : T (is_sorted text_cmp m.marks)
   pub documents : T (is_sorted text_cmp m.documents)
 
+-- each orphan of n is one of m, unchanged
+abbrev pub MakesNoOrphan : State → State → Type 0
+MakesNoOrphan m n = (r : Ref) (x : Orphan) → get n.orphans r ≡ Some x → get m.orphans r ≡ Some x
+
 -- the counters are at most 2 ^ 59, so what is drawn is below
 pub record AreSmall (m : State) : Type 0 where
   pub arrival : m.arrival ≤ 2 ^ 59

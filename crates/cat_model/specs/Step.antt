@@ -18,7 +18,10 @@ use Rattle.cat_table.specs.Table.{Text, text_cmp, same_text, Map, get, keys, put
 use Rattle.cat_model.specs.Catalogue.{Ref, Offered, Offers, Outcome, Rules, Origin, Row, Rows, ProviderInputs, Lease, Record, State, row_at, work, parts, same_option, known_refs, frame, Orphan, due_now}
 use Rattle.cat_types.specs.declared.work.Outcome.TheVariants.{Good, Bad}
 use Rattle.cat_model.specs.declared.types.Origin.TheVariants.{Provider, Entity}
+use Rattle.cat_model.specs.declared.types.Leaving.{Leaving}
 use Rattle.cat_model.specs.declared.types.Leaving.TheVariants.{Deleted, Orphaned}
+pub use Rattle.cat_model.specs.declared.types.OrphanRule.{OrphanRule}
+use Rattle.cat_model.specs.declared.types.OrphanRule.TheVariants.{Keep, Delete}
 
 -- ---- the rows of one origin are replaced
 
@@ -157,11 +160,16 @@ has_token token (Some lease) = nat_eq token lease.token
 abbrev pub is_present : Rules → State → Order → Record → Bool
 is_present rules m order x = has_token order.token x.lease && same_option rules.same_work (Some order.work) (work rules m order.reference)
 
--- the result of an order counts where the order is that of the present lease; what leaves becomes an orphan
+-- what leaves at a finish becomes an orphan, or is deleted, by the rule for orphans
+abbrev pub leaving : OrphanRule → Leaving
+leaving Keep = Orphaned
+leaving Delete = Deleted
+
+-- the result of an order counts where the order is that of the present lease; what leaves goes by the rule for orphans
 abbrev pub finish : Rules → Settings → Order → ℕ → State → Option Record → State
 finish rules s order now m None = m
 finish rules s order now m (Some x) =
-    cond (is_present rules m order x) (frame rules Orphaned m (finished_state s order.reference now x (rules.result order.work) m)) m
+    cond (is_present rules m order x) (frame rules (leaving s.orphans) m (finished_state s order.reference now x (rules.result order.work) m)) m
 
 -- a mutation acts where its serial is above the provider's last one; what leaves is deleted
 abbrev pub mutate : Rules → Text → Given → State → ProviderInputs → State

@@ -39,6 +39,13 @@ pub enum Leaving {
     Orphaned,
 }
 
+/// The rule for what leaves at a finish: its last entity is kept as an orphan, or it is deleted.
+#[derive(Clone, Copy, Debug, Drop, PartialEq, Eq)]
+pub enum OrphanRule {
+    Keep,
+    Delete,
+}
+
 /// A lease on a record: its token, and the moment at which it lapses.
 #[derive(Drop)]
 pub struct Lease {
@@ -88,12 +95,14 @@ pub struct Numbered {
     pub next: u64,
 }
 
-/// How long a result stands before its record is due again, how long a lease lasts, and the limit on the stored input bytes.
+/// How long a result stands before its record is due again, how long a lease lasts, the limit on the stored input bytes, and the
+/// rule for orphans.
 #[derive(Drop)]
 pub struct Settings {
     pub interval: u64,
     pub lease: u64,
     pub input_limit: u64,
+    pub orphans: OrphanRule,
 }
 
 /// A mutation as it acts on a provider's items: with keys filled in, in the order of its list.

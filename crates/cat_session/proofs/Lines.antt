@@ -24,7 +24,9 @@ use Rattle.cat_model.specs.Step.Event.{Mutate as Mutated, ShelfPut as PutOnShelf
 use Rattle.cat_model.specs.declared.types.Fault.{Fault}
 use Rattle.cat_model.specs.declared.types.Fault.TheVariants as model
 use Rattle.cat_model.specs.declared.types.Order.{Order}
+use Rattle.cat_model.specs.declared.types.OrphanRule.{OrphanRule}
 use Rattle.cat_model.specs.declared.types.Progress.{Progress}
+use Rattle.cat_model.specs.declared.types.Settings.{Settings}
 use Rattle.cat_model.specs.declared.types.State.{State}
 use Rattle.cat_model.specs.declared.types.StitchOrder.{StitchOrder}
 use Rattle.cat_model.specs.declared.types.Stop.{Stop}
@@ -34,10 +36,14 @@ use Rattle.cat_session.specs.Carried.{Carries, CarriesDeed, order_taken}
 use Rattle.cat_session.specs.Replies.{reply_line}
 use Rattle.cat_transcript.specs.Program.{program_settings}
 use Rattle.cat_transcript.specs.Session.{add_order, after_finish, after_place, after_reading, finish_reply, limit_of, or_refused, order_numbered, place_reply, reply_to, settle_reply, stop_reply, with_state}
+use Rattle.cat_transcript.specs.declared.state.RuledSession.{RuledSession}
 use Rattle.cat_transcript.specs.declared.state.SessionState.{SessionState}
 
 abbrev seen : State → ℕ → List Order → List (ℕ × StitchOrder) → SessionState
 seen state now orders stitches = record { state = state; now = now; orders = orders; stitches = stitches }
+
+abbrev ruled : OrphanRule → SessionState → RuledSession
+ruled rule session = record { orphans = rule; session = session }
 
 -- ---- the lines of replies
 
@@ -64,68 +70,72 @@ settle_line (cut n) acts p = refl
 -- ---- lines and deeds
 
 -- a line does what a deed does, and is answered by the line of its reply
-pub record Fits (rules : Rules) (now : ℕ) (orders : List Order) (stitches : List (ℕ × StitchOrder)) (state : State) (line : Line) (d : Deed) : Type 0 where
-  pub after : (word : Word) → IsActing word → after_reading rules program_settings word line (seen state now orders stitches) ≡ with_state (desk.done rules program_settings now (limit_of word) d state) (seen state now orders stitches)
-  pub says : (word : Word) → IsActing word → reply_to rules program_settings word line (seen state now orders stitches) ≡ reply_line (desk.answered rules program_settings now (limit_of word) d state)
+pub record Fits (rules : Rules) (s : Settings) (now : ℕ) (orders : List Order) (stitches : List (ℕ × StitchOrder)) (state : State) (line : Line) (d : Deed) : Type 0 where
+  pub after : (word : Word) → IsActing word → after_reading rules s word line (seen state now orders stitches) ≡ with_state (desk.done rules s now (limit_of word) d state) (seen state now orders stitches)
+  pub says : (word : Word) → IsActing word → reply_to rules s word line (seen state now orders stitches) ≡ reply_line (desk.answered rules s now (limit_of word) d state)
 
-module _ (rules : Rules) (now : ℕ) (orders : List Order) (stitches : List (ℕ × StitchOrder)) (state : State) where
-  pub mutates : (p : Text) (x : Mutation) → Fits rules now orders stitches state (asks.Mutate p x) (Mutate p (given p x))
-  mutates p x = record { after = λ word acts. refl; says = λ word acts. sym (refused_line (refusal rules program_settings (Mutated p (given p x)) state) (replies.Mutated (acted p (given p x) state))) }
+module _ (rules : Rules) (s : Settings) (now : ℕ) (orders : List Order) (stitches : List (ℕ × StitchOrder)) (state : State) where
+  pub mutates : (p : Text) (x : Mutation) → Fits rules s now orders stitches state (asks.Mutate p x) (Mutate p (given p x))
+  mutates p x = record { after = λ word acts. refl; says = λ word acts. sym (refused_line (refusal rules s (Mutated p (given p x)) state) (replies.Mutated (acted p (given p x) state))) }
 
-  pub puts : (name text : Text) → Fits rules now orders stitches state (asks.ShelfPut name text) (ShelfPut name text)
-  puts name text = record { after = λ word acts. refl; says = λ word acts. sym (refused_line (refusal rules program_settings (PutOnShelf name text) state) replies.Changed) }
+  pub puts : (name text : Text) → Fits rules s now orders stitches state (asks.ShelfPut name text) (ShelfPut name text)
+  puts name text = record { after = λ word acts. refl; says = λ word acts. sym (refused_line (refusal rules s (PutOnShelf name text) state) replies.Changed) }
 
-  pub drops : (name : Text) → Fits rules now orders stitches state (asks.ShelfDrop name) (ShelfDrop name)
-  drops name = record { after = λ word acts. refl; says = λ word acts. sym (refused_line (refusal rules program_settings (DroppedFromShelf name) state) replies.Changed) }
+  pub drops : (name : Text) → Fits rules s now orders stitches state (asks.ShelfDrop name) (ShelfDrop name)
+  drops name = record { after = λ word acts. refl; says = λ word acts. sym (refused_line (refusal rules s (DroppedFromShelf name) state) replies.Changed) }
 
-  pub refreshes : (r : Text) → Fits rules now orders stitches state (asks.Refresh r) (Refresh r)
-  refreshes r = record { after = λ word acts. refl; says = λ word acts. sym (refused_line (refusal rules program_settings (Refreshed r) state) replies.Changed) }
+  pub refreshes : (r : Text) → Fits rules s now orders stitches state (asks.Refresh r) (Refresh r)
+  refreshes r = record { after = λ word acts. refl; says = λ word acts. sym (refused_line (refusal rules s (Refreshed r) state) replies.Changed) }
 
-  pub forgets : (r : Text) → Fits rules now orders stitches state (asks.Forget r) (Forget r)
-  forgets r = record { after = λ word acts. refl; says = λ word acts. sym (refused_line (refusal rules program_settings (Forgotten r) state) replies.Changed) }
+  pub forgets : (r : Text) → Fits rules s now orders stitches state (asks.Forget r) (Forget r)
+  forgets r = record { after = λ word acts. refl; says = λ word acts. sym (refused_line (refusal rules s (Forgotten r) state) replies.Changed) }
 
-  pub settles : Fits rules now orders stitches state asks.Settle Settle
-  settles = record { after = λ word acts. refl; says = λ word acts. settle_line word acts (try_settle rules program_settings now (limit_of word) state) }
+  pub settles : Fits rules s now orders stitches state asks.Settle Settle
+  settles = record { after = λ word acts. refl; says = λ word acts. settle_line word acts (try_settle rules s now (limit_of word) state) }
 
-  pub finishes : (token : ℕ) (x : Order) → order_numbered token orders ≡ Some x → Fits rules now orders stitches state (asks.Finish token) (Finish x)
+  pub finishes : (token : ℕ) (x : Order) → order_numbered token orders ≡ Some x → Fits rules s now orders stitches state (asks.Finish token) (Finish x)
   finishes token x at = record {
-    after = λ word acts. ap (λ o. after_finish rules program_settings o (seen state now orders stitches)) at;
-    says = λ word acts. ap (λ o. finish_reply rules program_settings o (seen state now orders stitches)) at ∙ sym (refused_line (refusal rules program_settings (Finished x now) state) (replies.Finished (finished rules x state)));
+    after = λ word acts. ap (λ o. after_finish rules s o (seen state now orders stitches)) at;
+    says = λ word acts. ap (λ o. finish_reply rules s o (seen state now orders stitches)) at ∙ sym (refused_line (refusal rules s (Finished x now) state) (replies.Finished (finished rules x state)));
   }
 
-  pub places : (ticket : ℕ) (x : StitchOrder) → find nat_cmp ticket stitches ≡ Some x → Fits rules now orders stitches state (asks.Place ticket) (PutStitch x)
+  pub places : (ticket : ℕ) (x : StitchOrder) → find nat_cmp ticket stitches ≡ Some x → Fits rules s now orders stitches state (asks.Place ticket) (PutStitch x)
   places ticket x at = record {
-    after = λ word acts. ap (λ o. after_place rules program_settings o (seen state now orders stitches)) at;
-    says = λ word acts. ap (λ o. place_reply rules program_settings o (seen state now orders stitches)) at ∙ sym (refused_line (refusal rules program_settings (StitchPut x) state) (replies.Placed (placed rules x state)));
+    after = λ word acts. ap (λ o. after_place rules s o (seen state now orders stitches)) at;
+    says = λ word acts. ap (λ o. place_reply rules s o (seen state now orders stitches)) at ∙ sym (refused_line (refusal rules s (StitchPut x) state) (replies.Placed (placed rules x state)));
   }
 
 -- ---- what a session did
 
-module _ (rules : Rules) (old new : Ledger) (set : old.settings ≡ program_settings) (now now' : ℕ) (still : now' ≡ now) (orders : List Order) (stitches : List (ℕ × StitchOrder)) (m : SessionState) (is : seen old.state now orders stitches ≡ m) (text : List ℕ) where
+module _ (rules : Rules) (rule : OrphanRule) (old new : Ledger) (set : old.settings ≡ program_settings rule) (now now' : ℕ) (still : now' ≡ now) (orders : List Order) (stitches : List (ℕ × StitchOrder)) (m : RuledSession) (is : ruled rule (seen old.state now orders stitches) ≡ m) (text : List ℕ) where
+  abbrev s : Settings
+  s = program_settings rule
+
   -- a line that is a deed was carried out
-  pub carried : (line line' : Line) (d : Deed) → line' ≡ line → Fits rules now orders stitches old.state line d → CarriesDeed rules now d old new text → Carries rules program_settings line' m (seen new.state now' orders stitches) text
+  pub carried : (line line' : Line) (d : Deed) → line' ≡ line → Fits rules (program_settings rule) now orders stitches old.state line d → CarriesDeed rules now d old new text
+      → Carries rules line' m (ruled rule (seen new.state now' orders stitches)) text
   carried line line' d same fits h =
-      subst (λ v. Carries rules program_settings line' v (seen new.state now' orders stitches) text) is
-      (subst (λ l. Carries rules program_settings l (seen old.state now orders stitches) (seen new.state now' orders stitches) text) (sym same) (
+      subst (λ v. Carries rules line' v (ruled rule (seen new.state now' orders stitches)) text) is
+      (subst (λ l. Carries rules l (ruled rule (seen old.state now orders stitches)) (ruled rule (seen new.state now' orders stitches)) text) (sym same) (
         h.word,
         h.acts,
-        (λ i. seen ((h.state ∙ ap (λ s. desk.done rules s now (limit_of h.word) d old.state) set) i) (still i) orders stitches) ∙ sym (fits.after h.word h.acts),
+        (λ i. ruled rule (seen ((h.state ∙ ap (λ s. desk.done rules s now (limit_of h.word) d old.state) set) i) (still i) orders stitches)) ∙ ap (ruled rule) (sym (fits.after h.word h.acts)),
         h.says ∙ (ap (λ s. reply_line (desk.answered rules s now (limit_of h.word) d old.state)) set ∙ sym (fits.says h.word h.acts)),
       ))
 
   -- a take was carried out
   pub took : (line' : Line) → line' ≡ asks.Take → CarriesDeed rules now Take old new text → (orders' : List Order) → orders' ≡ add_order (order_taken rules now old) orders
-      → Carries rules program_settings line' m (seen new.state now' orders' stitches) text
+      → Carries rules line' m (ruled rule (seen new.state now' orders' stitches)) text
   took line' same h orders' kept =
-      subst (λ v. Carries rules program_settings line' v (seen new.state now' orders' stitches) text) is
-      (subst (λ l. Carries rules program_settings l (seen old.state now orders stitches) (seen new.state now' orders' stitches) text) (sym same) (
+      subst (λ v. Carries rules line' v (ruled rule (seen new.state now' orders' stitches)) text) is
+      (subst (λ l. Carries rules l (ruled rule (seen old.state now orders stitches)) (ruled rule (seen new.state now' orders' stitches)) text) (sym same) (
         h.word,
         h.acts,
-        (λ i. seen ((h.state ∙ ap (λ s. desk.done rules s now (limit_of h.word) Take old.state) set) i) (still i) ((kept ∙ ap (λ s. add_order (order_taken rules now (record { settings = s; state = old.state })) orders) set) i) stitches),
-        h.says ∙ (ap (λ s. reply_line (desk.answered rules s now (limit_of h.word) Take old.state)) set ∙ refused_line (refusal rules program_settings (Taken now) old.state) (replies.Taken (taken rules program_settings now old.state))),
+        (λ i. ruled rule (seen ((h.state ∙ ap (λ s. desk.done rules s now (limit_of h.word) Take old.state) set) i) (still i) ((kept ∙ ap (λ s. add_order (order_taken rules now (record { settings = s; state = old.state })) orders) set) i) stitches)),
+        h.says ∙ (ap (λ s. reply_line (desk.answered rules s now (limit_of h.word) Take old.state)) set ∙ refused_line (refusal rules s (Taken now) old.state) (replies.Taken (taken rules s now old.state))),
       ))
 
 -- a line that is a question was answered
-pub asked : (rules : Rules) (old m new : SessionState) → old ≡ m → (text : List ℕ) (ask : Ask) (line : Line) → line ≡ asks.Ask ask → Carries rules program_settings (asks.Ask ask) old new text → Carries rules program_settings line m new text
+pub asked : (rules : Rules) (old m new : RuledSession) → old ≡ m → (text : List ℕ) (ask : Ask) (line : Line) → line ≡ asks.Ask ask → Carries rules (asks.Ask ask) old new text → Carries rules line m new text
 asked rules old m new is text ask line same h =
-    subst (λ v. Carries rules program_settings line v new text) is (subst (λ l. Carries rules program_settings l old new text) (sym same) h)
+    subst (λ v. Carries rules line v new text) is (subst (λ l. Carries rules l old new text) (sym same) h)

@@ -12,14 +12,16 @@ use Rattle.cat_model.specs.Reply.{taken}
 use Rattle.cat_model.specs.Step.{refusal}
 use Rattle.cat_model.specs.Step.Event.{Take as Taken}
 use Rattle.cat_model.specs.declared.types.Order.{Order}
-use Rattle.cat_model.specs.declared.types.Settings.{Settings}
 use Rattle.cat_session.specs.Replies.{reply_line}
-use Rattle.cat_transcript.specs.declared.state.SessionState.{SessionState}
+use Rattle.cat_transcript.specs.Program.{program_settings}
+use Rattle.cat_transcript.specs.declared.state.RuledSession.{RuledSession}
 use Rattle.cat_transcript.specs.Session.{after_reading, limit_of, reply_to, unless_refused}
 
--- a line was carried out, and this is its reply
-abbrev pub Carries : Rules → Settings → Line → SessionState → SessionState → List ℕ → Type 0
-Carries rules s line old new text = (word : Word) × IsActing word × (new ≡ after_reading rules s word line old) × (text ≡ reply_to rules s word line old)
+-- a line was carried out under the session's rule, and this is its reply
+abbrev pub Carries : Rules → Line → RuledSession → RuledSession → List ℕ → Type 0
+Carries rules line old new text =
+    (word : Word) × IsActing word × (new ≡ record old { session = after_reading rules (program_settings old.orphans) word line old.session })
+    × (text ≡ reply_to rules (program_settings old.orphans) word line old.session)
 
 -- a deed was done to the catalogue at this moment, or refused, and this is the line of the reply
 pub record CarriesDeed (rules : Rules) (now : ℕ) (d : Deed) (old new : Ledger) (text : List ℕ) : Type 0 where

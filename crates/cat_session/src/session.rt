@@ -6,8 +6,8 @@ ghost use Rattle.cat_desk.specs.Deed.{Deed, deed_of};
 ghost use Rattle.cat_loop.specs.Word.{AnswersLine};
 ghost use Rattle.cat_model.specs.Step.{next_taken};
 ghost use Rattle.cat_session.specs.Carried.{Carries, CarriesDeed, IsShort, Stays, order_taken};
-ghost use Rattle.cat_transcript.specs.Program.{program_settings, session_start};
-ghost use Rattle.cat_transcript.specs.Session.{add_order, session_after, session_reply};
+ghost use Rattle.cat_transcript.specs.Program.{ruled_after, ruled_reply, session_start};
+ghost use Rattle.cat_transcript.specs.Session.{add_order};
 
 use crate::orders::{keep, keep_stitch, order_in, order_numbered, room_for, stitch_in};
 use crate::replies::{ROOM, ended, line_refused, push_reply, unknown};
@@ -21,7 +21,7 @@ use cat_desk::timed::Timed;
 use cat_hold::layers::Layers;
 use cat_io::FixedClock;
 use cat_loop::Machine;
-use cat_model::types::{Order, Settings, StitchOrder};
+use cat_model::types::{Order, OrphanRule, Settings, StitchOrder};
 use cat_query::ask::Ask;
 use cat_ref::reference::Ref;
 use cat_replies::events::push_changed;
@@ -38,11 +38,12 @@ pub const LEASE: u64 = 60_000;
 /// The most stored input bytes.
 pub const INPUT_LIMIT: u64 = 67_108_864;
 
-/// A catalogue with a clock that stands, and the orders and stitch orders that were handed out.
+/// A catalogue under a rule for orphans with a clock that stands, and the orders and stitch orders that were handed out.
 #[derive(Drop)]
 pub struct Session<L: Layers> {
     alloc: Global,
     layers: L,
+    orphans: OrphanRule,
     desk: Timed<L, FixedClock>,
     orders: Vec<Order>,
     stitches: Table<u64, StitchOrder>,
@@ -50,17 +51,17 @@ pub struct Session<L: Layers> {
 
 impl<L: Layers> Model for Session<L> {
     ghost use Rattle.std.specs.Prelude.{◌≡◌};
-    ghost use Rattle.cat_transcript.specs.declared.state.SessionState.{SessionState};
-    ghost use Rattle.cat_transcript.specs.contracts.state.SessionState.{the_row};
+    ghost use Rattle.cat_transcript.specs.declared.state.RuledSession.{RuledSession};
+    ghost use Rattle.cat_transcript.specs.contracts.state.RuledSession.{the_row};
     ghost use Rattle.cat_transcript.specs.Program.{program_settings};
 
-    ghost Value = { SessionState };
+    ghost Value = { RuledSession };
 
     ghost coded = { the_row.coded };
 
-    ghost view = { λ a. record { state = a.desk.catalogue.state; now = a.desk.clock.moment; orders = a.orders.items; stitches = a.stitches } };
+    ghost view = { λ a. record { orphans = a.orphans; session = record { state = a.desk.catalogue.state; now = a.desk.clock.moment; orders = a.orders.items; stitches = a.stitches } } };
 
-    ghost invariant = { λ a. a.desk.catalogue.settings ≡ program_settings };
+    ghost invariant = { λ a. a.desk.catalogue.settings ≡ program_settings a.orphans };
 }
 
 // Has the desk act, and gives its reply as a line. The room for it is taken first.
@@ -113,19 +114,21 @@ fn take<L: Layers>(
 }
 
 impl<L: Layers> Session<L> {
-    /// A session over an empty catalogue, at the moment 0. The lower layers are given twice: for the catalogue, and for what is
+    /// A session over an empty catalogue, at the moment 0, under a rule for orphans. The lower layers are given twice: for the catalogue, and for what is
     /// worked of the orders that were handed out.
-    pub fn new(alloc: Global, layers: L, same: L) -> Session<L>
-        ensures { result ≡ session_start }
+    pub fn new(alloc: Global, layers: L, same: L, orphans: OrphanRule) -> Session<L>
+        ensures { result ≡ record { orphans = orphans; session = session_start } }
     {
         let settings = Settings {
             interval: INTERVAL,
             lease: LEASE,
             input_limit: INPUT_LIMIT,
+            orphans,
         };
         Session {
             alloc,
             layers,
+            orphans,
             desk: Timed::new(Catalogue::empty(alloc, same, settings), FixedClock::at(0)),
             orders: Vec::new(alloc),
             stitches: Table::new(alloc),
@@ -134,7 +137,7 @@ impl<L: Layers> Session<L> {
 
     fn set_clock(&mut self, now: u64) -> Result<Vec<u8>, AllocError>
         requires { now < 2 ^ 53 }
-        ensures ok { IfOk result (λ text. Carries L.rules program_settings (asks.Clock now) self.old self.new text.items) }
+        ensures ok { IfOk result (λ text. Carries L.rules (asks.Clock now) self.old self.new text.items) }
         ensures err { OnErr result (self.new ≡ self.old) }
     {
         let mut out = Vec::new(self.alloc);
@@ -145,7 +148,7 @@ impl<L: Layers> Session<L> {
 
     // The result of an order that was handed out is brought back; it is worked anew.
     fn finish(&mut self, token: u64) -> Result<Vec<u8>, AllocError>
-        ensures ok { IfOk result (λ text. Carries L.rules program_settings (asks.Finish token) self.old self.new text.items) }
+        ensures ok { IfOk result (λ text. Carries L.rules (asks.Finish token) self.old self.new text.items) }
         ensures err { OnErr result (self.new ≡ self.old) }
     {
         match order_numbered(self.orders.as_slice(), token) {
@@ -159,7 +162,7 @@ impl<L: Layers> Session<L> {
 
     // The order of the next mark is kept.
     fn stitch(&mut self, after: u64) -> Result<Vec<u8>, AllocError>
-        ensures ok { IfOk result (λ text. Carries L.rules program_settings (asks.Stitch after) self.old self.new text.items) }
+        ensures ok { IfOk result (λ text. Carries L.rules (asks.Stitch after) self.old self.new text.items) }
         ensures err { OnErr result (self.new ≡ self.old) }
     {
         let mut out = Vec::new(self.alloc);
@@ -171,7 +174,7 @@ impl<L: Layers> Session<L> {
 
     // The document of a stitch order that was handed out is brought back; it is stitched anew.
     fn place(&mut self, ticket: u64) -> Result<Vec<u8>, AllocError>
-        ensures ok { IfOk result (λ text. Carries L.rules program_settings (asks.Place ticket) self.old self.new text.items) }
+        ensures ok { IfOk result (λ text. Carries L.rules (asks.Place ticket) self.old self.new text.items) }
         ensures err { OnErr result (self.new ≡ self.old) }
     {
         match self.stitches.get(&ticket) {
@@ -184,7 +187,7 @@ impl<L: Layers> Session<L> {
     }
 
     fn ask(&mut self, ask: &Ask) -> Result<Vec<u8>, AllocError>
-        ensures ok { IfOk result (λ text. Carries L.rules program_settings (asks.Ask ask.now) self.old self.new text.items) }
+        ensures ok { IfOk result (λ text. Carries L.rules (asks.Ask ask.now) self.old self.new text.items) }
         ensures err { OnErr result (self.new ≡ self.old) }
     {
         let mut out = Vec::new(self.alloc);
@@ -195,7 +198,7 @@ impl<L: Layers> Session<L> {
     // Carries out a line. For want of memory the session is as before.
     fn carry_out(&mut self, line: Line) -> Result<Vec<u8>, AllocError>
         requires { IsReady line }
-        ensures ok { IfOk result (λ text. Carries L.rules program_settings line self.old self.new text.items) }
+        ensures ok { IfOk result (λ text. Carries L.rules line self.old self.new text.items) }
         ensures err { OnErr result (self.new ≡ self.old) }
     {
         let alloc = self.alloc;
@@ -221,7 +224,7 @@ impl<L: Layers> Session<L> {
     // Reads a line and carries it out, or says why it is refused. For want of memory the session is as before.
     #[tactic(auto, unfolding(cat_transcript::specs::Session::session_after, cat_transcript::specs::Session::session_reply))]
     fn answer_line(&mut self, line: &[u8]) -> Result<Vec<u8>, AllocError>
-        ensures ok { IfOk result (λ text. AnswersLine (session_after L.rules program_settings) (session_reply L.rules program_settings) self.old self.new line.now text.items) }
+        ensures ok { IfOk result (λ text. AnswersLine (ruled_after L.rules) (ruled_reply L.rules) self.old self.new line.now text.items) }
         ensures err { OnErr result (self.new ≡ self.old) }
     {
         match read_line(self.alloc, line) {
@@ -232,9 +235,9 @@ impl<L: Layers> Session<L> {
 }
 
 impl<L: Layers> Machine for Session<L> {
-    ghost after = { session_after L.rules program_settings };
+    ghost after = { ruled_after L.rules };
 
-    ghost reply = { session_reply L.rules program_settings };
+    ghost reply = { ruled_reply L.rules };
 
     fn answer(&mut self, line: &[u8]) -> Result<Vec<u8>, AllocError> {
         self.answer_line(line)

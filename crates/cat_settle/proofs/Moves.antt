@@ -12,10 +12,9 @@ use Rattle.cat_model.specs.declared.types.Record.{Record}
 use Rattle.cat_model.specs.declared.types.Settings.{Settings}
 use Rattle.cat_model.specs.declared.types.State.{State}
 use Rattle.cat_model.specs.declared.types.Stop.{Stop}
-use Rattle.cat_model.specs.declared.types.Leaving.TheVariants.{Orphaned}
 use Rattle.cat_model.specs.Catalogue.{Ref, Rules, frame}
 use Rattle.cat_model.specs.Settle.{after_refusal, begun_round, due_refs, is_due, is_empty, is_ended, order, try_event, try_finish, try_round, try_rounds, try_take_and_finish, try_turn, try_turns}
-use Rattle.cat_model.specs.Step.{Event, change, finish, finished_state, is_present, refusal, take}
+use Rattle.cat_model.specs.Step.{Event, change, finish, finished_state, is_present, leaving, refusal, take}
 use Rattle.cat_model.specs.Step.Event.{TakeAt, Finish}
 use Rattle.cat_settle.specs.Part.{CutRounds, Goes, HaveRounds, IsCut, IsDone}
 use Rattle.cat_settle.proofs.Parts.{done_done, done_cut, nothing_done, same_cut, same_done}
@@ -66,7 +65,7 @@ module _ (rules : Rules) (s : Settings) (now : ℕ) where
   finish_token x m None = le_refl _
   finish_token x m (Some y) = go (is_present rules m x y)
     where
-      go : (b : Bool) → m.token ≤ (cond b (frame rules Orphaned m (finished_state s x.reference now y (rules.result x.work) m)) m).token
+      go : (b : Bool) → m.token ≤ (cond b (frame rules (leaving s.orphans) m (finished_state s x.reference now y (rules.result x.work) m)) m).token
       go true = le_refl _
       go false = le_refl _
 

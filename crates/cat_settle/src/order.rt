@@ -11,7 +11,6 @@ ghost use Rattle.cat_frame.specs.Linked.{AreLinked, AreRecorded};
 ghost use Rattle.cat_settle.specs.Part.{noted};
 
 use cat_frame::parts::present_parts;
-use cat_hold::build::{Passes, filtered};
 use cat_hold::layers::Layers;
 use cat_hold::parts::work_of;
 use cat_links::links::Links;
@@ -153,25 +152,15 @@ pub fn due(now: u64, kept: Option<&Record>) -> bool
     }
 }
 
-#[derive(Drop)]
-struct IsDue<'a> {
-    now: u64,
-    m: &'a State,
-}
-
-impl Passes<Ref> for IsDue<'_> {
-    ghost passes = { λ s r. is_due s.now (get s.m.now.records r) };
-
-    fn test(&self, _alloc: Global, key: &Ref) -> Result<bool, AllocError> {
-        Ok(due(self.now, self.m.records.get(key)))
-    }
-}
-
-/// The references whose records are due, in order.
+/// The references whose records are due, in order. Each record is looked at, and only what is due is copied.
 pub fn refs_due(alloc: Global, now: u64, m: &State) -> Result<Listing<Ref>, AllocError>
     ensures { IfOk result (λ l. l ≡ due_refs now m.now) }
 {
-    let all = m.records.keys(alloc)?;
-    let test = IsDue { now, m };
-    filtered(alloc, all.as_slice(), &test)
+    let mut refs = Vec::new(alloc);
+    for (reference, _) in m.records.as_slice() {
+        if due(now, m.records.get(reference)) {
+            refs.push(reference.duplicate(alloc)?)?;
+        }
+    }
+    Ok(Listing::from_vec(refs))
 }

@@ -4,6 +4,7 @@ use crate::command::USAGE;
 use crate::{Command, Status, answer_lines, command_of, usage};
 use cat_io::{MemorySink, MemorySource};
 use cat_loop::Machine;
+use cat_model::types::OrphanRule;
 use std::alloc::{AllocError, Global};
 use std::test::Fail;
 
@@ -61,9 +62,25 @@ fn ends_with_a_status(rt: HostRuntime) -> Result<(), Fail> {
 #[test]
 fn words_are_commands(rt: HostRuntime) -> Result<(), Fail> {
     let alloc = rt.alloc();
-    let cases: [(&[&str], Option<Command>); 12] = [
-        (&["session"], Some(Command::Session)),
-        (&["wire"], Some(Command::Wire)),
+    let cases: [(&[&str], Option<Command>); 19] = [
+        (&["session"], Some(Command::Session(OrphanRule::Keep))),
+        (&["wire"], Some(Command::Wire(OrphanRule::Keep))),
+        (
+            &["session", "--orphans", "keep"],
+            Some(Command::Session(OrphanRule::Keep)),
+        ),
+        (
+            &["session", "--orphans", "delete"],
+            Some(Command::Session(OrphanRule::Delete)),
+        ),
+        (
+            &["wire", "--orphans", "delete"],
+            Some(Command::Wire(OrphanRule::Delete)),
+        ),
+        (&["session", "--orphans", "drop"], None),
+        (&["session", "--orphans"], None),
+        (&["session", "--orphans", "keep", "--orphans", "keep"], None),
+        (&["sample", "--orphans", "keep"], None),
         (&["sample", "1", "5"], Some(Command::Sample(1, 5))),
         (&["sample", "0", "50000"], Some(Command::Sample(0, 50_000))),
         (&["sample", "2147483648", "5"], None),

@@ -1,6 +1,6 @@
 //! The top call over the catalogue.
 
-ghost use Rattle.std.specs.Prelude.{◌≡◌, ◌≢◌, ℕ, List, Ok, Some, None, ◌<◌, ◌≤◌, ◌^◌, ◌↔◌, ◌⊎◌, map, string_bytes};
+ghost use Rattle.std.specs.Prelude.{◌≡◌, ◌≢◌, ℕ, List, [], Ok, Some, None, ◌<◌, ◌≤◌, ◌^◌, ◌↔◌, ◌⊎◌, map, string_bytes};
 ghost use Rattle.std.specs.Io.KnownBytes.{Appends};
 ghost use Rattle.cat_api.specs.Wire.{wire_after, wire_reply};
 ghost use Rattle.cat_commands.specs.Lines.{line_of};
@@ -10,10 +10,12 @@ ghost use Rattle.cat_io.specs.Causes.{Rose};
 ghost use Rattle.cat_io.specs.Sink.{AppendsFront};
 ghost use Rattle.cat_layers.specs.Layered.{layered};
 ghost use Rattle.cat_loop.specs.Word.{Word};
-ghost use Rattle.cat_model.specs.Fresh.{IsFresh};
+ghost use Rattle.cat_model.specs.Fresh.{IsFresh, facts_of, fresh_docs};
 ghost use Rattle.cat_model.specs.Sound.{Quiet};
 ghost use Rattle.cat_model.specs.Step.{start};
 ghost use Rattle.cat_model.specs.declared.types.Counts.{Counts};
+ghost use Rattle.cat_model.specs.declared.types.OrphanRule.{OrphanRule};
+ghost use Rattle.cat_model.specs.declared.types.OrphanRule.TheVariants.{Delete, Keep};
 ghost use Rattle.cat_replies.specs.Events.{settled};
 ghost use Rattle.cat_sample.specs.Summary.{sample_line};
 ghost use Rattle.cat_tool.specs.Sessions.{reply_next, session_at, session_next};
@@ -32,51 +34,94 @@ use cat_api::service::Service;
 use cat_core::catalogue::Catalogue;
 use cat_io::{Sink, Source};
 use cat_layers::layered::Layered;
-use cat_model::types::Settings;
+use cat_model::types::{OrphanRule, Settings};
 use cat_sample::sample;
 use cat_session::Session;
 use cat_transcript::law::{
-    inputs_are_those_of_accepted_commands, sessions_stay_sound, settled_sessions_are_at_rest,
+    deleting_sessions_have_no_orphans, inputs_are_those_of_accepted_commands, sessions_stay_sound,
+    settled_sessions_are_at_rest,
 };
 use std::alloc::Global;
 
-// The settings of the program, in milliseconds and bytes.
-fn settings() -> Settings
-    ensures { result ≡ program_settings }
+// The settings of the program under a rule for orphans, in milliseconds and bytes.
+fn settings(orphans: OrphanRule) -> Settings
+    ensures { result ≡ program_settings orphans }
 {
     Settings {
         interval: 120_000,
         lease: 60_000,
         input_limit: 67_108_864,
+        orphans,
     }
 }
 
-// An empty catalogue as a service.
-fn empty_service(alloc: Global) -> Service<Layered>
-    ensures { result ≡ record { settings = program_settings; state = start } }
+// An empty catalogue under a rule for orphans, as a service.
+fn empty_service(alloc: Global, orphans: OrphanRule) -> Service<Layered>
+    ensures { result ≡ record { settings = program_settings orphans; state = start } }
 {
-    let catalogue = Catalogue::empty(alloc, Layered, settings());
+    let catalogue = Catalogue::empty(alloc, Layered, settings(orphans));
     Service::new(alloc, catalogue)
 }
 
-// Makes a sample and writes its line, where there was memory for it.
+// Answers the lines of the source over an empty catalogue, under a rule for orphans.
+fn run_session<S: Source, O: Sink>(
+    alloc: Global,
+    orphans: OrphanRule,
+    source: &mut S,
+    sink: &mut O,
+) -> Status
+    ensures ran { (end : SessionState) × HasRun (session_after layered (program_settings orphans)) (session_reply layered (program_settings orphans)) result.0
+        (S.left source.old) (S.left source.new) (O.written sink.old) (O.written sink.new) session_start end }
+    ensures read_fault { result.0 ≡ 3 → Rose (S.faults source.old) (S.faults source.new) }
+    ensures write_fault { result.0 ≡ 4 → Rose (O.faults sink.old) (O.faults sink.new) }
+    ensures memory { result.0 ≡ 9 → (source.new ≡ source.old) × (sink.new ≡ sink.old) }
+    ensures read_later { S.faults source.old ≤ S.faults source.new }
+    ensures write_later { O.faults sink.old ≤ O.faults sink.new }
+    ensures ended { (result.0 ≡ 0) ⊎ ((result.0 ≡ 3) ⊎ ((result.0 ≡ 4) ⊎ ((result.0 ≡ 9) ⊎ (result.0 ≡ 10)))) }
+{
+    let mut session = Session::new(alloc, Layered, Layered, orphans);
+    answer_lines(alloc, &mut session, source, sink)
+}
+
+// Answers the messages of one connection over an empty catalogue, under a rule for orphans.
+fn run_connection<S: Source, O: Sink>(
+    alloc: Global,
+    orphans: OrphanRule,
+    source: &mut S,
+    sink: &mut O,
+) -> Status
+    ensures served { (end : Ledger) × HasServed (wire_after layered) (wire_reply layered) result.0
+        (S.left source.old) (S.left source.new) (O.written sink.old) (O.written sink.new) (record { settings = program_settings orphans; state = start }) end }
+    ensures read_fault { result.0 ≡ 3 → Rose (S.faults source.old) (S.faults source.new) }
+    ensures write_fault { result.0 ≡ 4 → Rose (O.faults sink.old) (O.faults sink.new) }
+    ensures memory { result.0 ≡ 9 → (source.new ≡ source.old) × (sink.new ≡ sink.old) }
+    ensures read_later { S.faults source.old ≤ S.faults source.new }
+    ensures write_later { O.faults sink.old ≤ O.faults sink.new }
+    ensures ended { (result.0 ≡ 0) ⊎ ((result.0 ≡ 3) ⊎ ((result.0 ≡ 4) ⊎ ((result.0 ≡ 9) ⊎ (result.0 ≡ 10)))) }
+{
+    let mut service = empty_service(alloc, orphans);
+    answer_messages(alloc, &mut service, source, sink)
+}
+
+// Makes a sample under the rule that keeps orphans, and writes its line, where there was memory for it.
 fn tell_sample<O: Sink>(alloc: Global, seed: u64, count: u64, sink: &mut O) -> Status
     requires { seed < 2 ^ 31 }
-    ensures told { HasTold (sample_line layered program_settings seed count) result.0 (O.written sink.old) (O.written sink.new) (O.faults sink.old) (O.faults sink.new) }
+    ensures told { HasTold (sample_line layered (program_settings Keep) seed count) result.0 (O.written sink.old) (O.written sink.new) (O.faults sink.old) (O.faults sink.new) }
     ensures memory { result.0 ≡ 9 → sink.new ≡ sink.old }
     ensures write_fault { result.0 ≡ 4 → Rose (O.faults sink.old) (O.faults sink.new) }
     ensures later { O.faults sink.old ≤ O.faults sink.new }
     ensures ended { (result.0 ≡ 0) ⊎ ((result.0 ≡ 4) ⊎ (result.0 ≡ 9)) }
 {
-    match sample(alloc, Layered, settings(), seed, count) {
+    match sample(alloc, Layered, settings(OrphanRule::Keep), seed, count) {
         Ok(line) => tell(line.as_slice(), sink),
         Err(_) => Status(9),
     }
 }
 
 /// Runs the command that the words are. `session` answers the lines of the source over an empty catalogue, one reply a line; `wire`
-/// answers the messages of one HTTP connection over an empty catalogue whose moment is 0; `sample` with a seed and a count makes a sample and
-/// writes its line; other words write the usage line. The status says how it ended: 0 where all input was read and answered, 2 for usage,
+/// answers the messages of one HTTP connection over an empty catalogue whose moment is 0; each of them keeps or deletes what leaves at a
+/// finish, by the rule for orphans among its words; `sample` with a seed and a count makes a sample and writes its line; other words write
+/// the usage line. The status says how it ended: 0 where all input was read and answered, 2 for usage,
 /// 3 where the source failed, 4 where the sink failed, 9 for want of memory before the first line or message, or for a sample, 10 where 2^40
 /// bytes were taken.
 pub fn run<S: Source, O: Sink>(
@@ -86,32 +131,37 @@ pub fn run<S: Source, O: Sink>(
     sink: &mut O,
 ) -> Status
     // The bytes written are the abstract catalogue's replies to the lines of the bytes that the source told.
-    ensures headline { command_of (map string_bytes words.now) ≡ Some Command.Session → (end : SessionState)
-        × HasRun (session_after layered program_settings) (session_reply layered program_settings) result.0
+    ensures headline { (rule : OrphanRule) → command_of (map string_bytes words.now) ≡ Some (Command.Session rule) → (end : SessionState)
+        × HasRun (session_after layered (program_settings rule)) (session_reply layered (program_settings rule)) result.0
         (S.left source.old) (S.left source.new) (O.written sink.old) (O.written sink.new) session_start end }
 
     // The same of the messages of a connection.
-    ensures connection { command_of (map string_bytes words.now) ≡ Some Command.Wire → (end : Ledger)
+    ensures connection { (rule : OrphanRule) → command_of (map string_bytes words.now) ≡ Some (Command.Wire rule) → (end : Ledger)
         × HasServed (wire_after layered) (wire_reply layered) result.0
-        (S.left source.old) (S.left source.new) (O.written sink.old) (O.written sink.new) (record { settings = program_settings; state = start }) end }
+        (S.left source.old) (S.left source.new) (O.written sink.old) (O.written sink.new) (record { settings = program_settings rule; state = start }) end }
 
     // The line of a sample is that of the abstract catalogue.
     ensures sample { (seed count : ℕ) → command_of (map string_bytes words.now) ≡ Some (Command.Sample seed count)
-        → HasTold (sample_line layered program_settings seed count) result.0 (O.written sink.old) (O.written sink.new) (O.faults sink.old) (O.faults sink.new) }
+        → HasTold (sample_line layered (program_settings Keep) seed count) result.0 (O.written sink.old) (O.written sink.new) (O.faults sink.old) (O.faults sink.new) }
 
     // After every prefix of the lines, where that catalogue is quiet its documents are those computed afresh.
-    ensures fresh { (lines : List (List ℕ)) (outcomes : List Word) (now : ℕ)
-        → Quiet (session_at lines outcomes).state now → IsFresh layered (session_at lines outcomes).state }
+    ensures fresh { (rule : OrphanRule) (lines : List (List ℕ)) (outcomes : List Word) (now : ℕ)
+        → Quiet (session_at rule lines outcomes).state now → IsFresh layered (session_at rule lines outcomes).state }
+
+    // Under the rule that deletes, it never has an orphan, and where it is quiet its documents are just those computed afresh.
+    ensures no_orphan { (lines : List (List ℕ)) (outcomes : List Word) → (session_at Delete lines outcomes).state.orphans ≡ [] }
+    ensures just_fresh { (lines : List (List ℕ)) (outcomes : List Word) (now : ℕ) → Quiet (session_at Delete lines outcomes).state now
+        → (session_at Delete lines outcomes).state.documents ≡ fresh_docs layered (facts_of layered (session_at Delete lines outcomes).state) }
 
     // Its inputs are those that the accepted commands made, one after the other.
-    ensures inputs { (lines : List (List ℕ)) (outcomes : List Word)
-        → inputs_of (session_at lines outcomes).state
-        ≡ inputs_fold (accepted_commands layered program_settings session_start lines outcomes) (inputs_of session_start.state) }
+    ensures inputs { (rule : OrphanRule) (lines : List (List ℕ)) (outcomes : List Word)
+        → inputs_of (session_at rule lines outcomes).state
+        ≡ inputs_fold (accepted_commands layered (program_settings rule) session_start lines outcomes) (inputs_of session_start.state) }
 
     // A settle that is answered `settled` leaves it at rest, nothing due and nothing marked.
-    ensures settled { (lines : List (List ℕ)) (outcomes : List Word) (outcome : Word) (line : List ℕ) (counts : Counts)
-        → line_of line ≡ Ok Settle → reply_next lines outcomes outcome line ≡ settled counts
-        → IsAtRest (session_next lines outcomes outcome line) }
+    ensures settled { (rule : OrphanRule) (lines : List (List ℕ)) (outcomes : List Word) (outcome : Word) (line : List ℕ) (counts : Counts)
+        → line_of line ≡ Ok Settle → reply_next rule lines outcomes outcome line ≡ settled counts
+        → IsAtRest (session_next rule lines outcomes outcome line) }
 
     // Each status has its cause.
     ensures usage { (result.0 ≡ 2) ↔ (command_of (map string_bytes words.now) ≡ None) }
@@ -130,18 +180,13 @@ pub fn run<S: Source, O: Sink>(
         → (result.0 ≡ 0) ⊎ ((result.0 ≡ 9) ⊎ (result.0 ≡ 10)) }
 {
     sessions_stay_sound();
+    deleting_sessions_have_no_orphans();
     inputs_are_those_of_accepted_commands();
     settled_sessions_are_at_rest();
     match command_of(words) {
         None => usage(sink),
-        Some(Command::Session) => {
-            let mut session = Session::new(alloc, Layered, Layered);
-            answer_lines(alloc, &mut session, source, sink)
-        }
-        Some(Command::Wire) => {
-            let mut service = empty_service(alloc);
-            answer_messages(alloc, &mut service, source, sink)
-        }
+        Some(Command::Session(orphans)) => run_session(alloc, orphans, source, sink),
+        Some(Command::Wire(orphans)) => run_connection(alloc, orphans, source, sink),
         Some(Command::Sample(seed, count)) => tell_sample(alloc, seed, count, sink),
     }
 }

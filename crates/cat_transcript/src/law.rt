@@ -1,13 +1,14 @@
 //! What holds after any lines, and what a reply tells.
-ghost use Rattle.std.specs.Prelude.{◌≡◌, ◌≤◌, List, Ok, ℕ};
+ghost use Rattle.std.specs.Prelude.{◌≡◌, ◌≤◌, List, [], Ok, ℕ};
 ghost use Rattle.cat_commands.specs.Lines.{line_of};
 ghost use Rattle.cat_commands.specs.declared.line.Line.TheVariants.{Settle};
 ghost use Rattle.cat_loop.specs.Runs.{after_lines, line_after, line_reply};
 ghost use Rattle.cat_loop.specs.Word.{Word};
 ghost use Rattle.cat_model.specs.Catalogue.{Rules};
-ghost use Rattle.cat_model.specs.Fresh.{IsFresh};
+ghost use Rattle.cat_model.specs.Fresh.{IsFresh, facts_of, fresh_docs};
 ghost use Rattle.cat_model.specs.Sound.{Quiet, Sound};
 ghost use Rattle.cat_model.specs.declared.types.Counts.{Counts};
+ghost use Rattle.cat_model.specs.declared.types.OrphanRule.TheVariants.{Delete};
 ghost use Rattle.cat_model.specs.declared.types.Settings.{Settings};
 ghost use Rattle.cat_replies.specs.Events.{cut_by_memory, no_memory, settled};
 ghost use Rattle.cat_transcript.specs.Inputs.{accepted_commands, inputs_fold, inputs_of};
@@ -24,6 +25,17 @@ pub fn sessions_stay_sound()
     ensures fresh { (rules : Rules) (settings : Settings) (lines : List (List ℕ)) (words : List Word) (now : ℕ)
         → Quiet (after_lines (session_after rules settings) session_start lines words).state now
         → IsFresh rules (after_lines (session_after rules settings) session_start lines words).state }
+{}
+
+/// Under the rule that deletes what leaves, no session has an orphan after any lines, and where its catalogue is quiet its documents
+/// are just those computed afresh.
+pub fn deleting_sessions_have_no_orphans()
+    ensures none { (rules : Rules) (settings : Settings) (lines : List (List ℕ)) (words : List Word)
+        → settings.orphans ≡ Delete → (after_lines (session_after rules settings) session_start lines words).state.orphans ≡ [] }
+    ensures fresh { (rules : Rules) (settings : Settings) (lines : List (List ℕ)) (words : List Word) (now : ℕ)
+        → settings.orphans ≡ Delete → Quiet (after_lines (session_after rules settings) session_start lines words).state now
+        → (after_lines (session_after rules settings) session_start lines words).state.documents
+        ≡ fresh_docs rules (facts_of rules (after_lines (session_after rules settings) session_start lines words).state) }
 {}
 
 /// After any lines the serials and items of providers, and the shelf, are those at the start as the accepted commands change

@@ -1,5 +1,5 @@
 //! What contracts see of a session.
-use cat_model::types::{Order, State, StitchOrder};
+use cat_model::types::{Order, OrphanRule, State, StitchOrder};
 use cat_table::listing::Listing;
 use cat_types::table::Table;
 
@@ -11,4 +11,11 @@ pub struct SessionState {
     pub now: u64,
     pub orders: Listing<Order>,
     pub stitches: Table<u64, StitchOrder>,
+}
+
+/// A session, and the rule for orphans under which it runs.
+#[derive(Drop)]
+pub struct RuledSession {
+    pub orphans: OrphanRule,
+    pub session: SessionState,
 }

@@ -3,4 +3,6 @@
 #![tactic(auto)]
 
 #[cfg(test)]
+mod replies;
+#[cfg(test)]
 mod tests;

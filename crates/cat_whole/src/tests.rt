@@ -5,7 +5,7 @@ use cat_inputs::form::Form;
 use cat_inputs::input::read_mutation;
 use cat_io::{MemorySink, MemorySource};
 use cat_layers::layered::Layered;
-use cat_model::types::{Settings, State};
+use cat_model::types::{OrphanRule, Settings, State};
 use cat_query::answers::push_list;
 use cat_query::read::read_query;
 use cat_tool::{Status, run};
@@ -77,6 +77,7 @@ fn quiet_documents_are_those_computed_afresh(rt: HostRuntime) -> Result<(), Fail
         interval: 120000,
         lease: 60000,
         input_limit: 67108864,
+        orphans: OrphanRule::Keep,
     };
     let mut catalogue = Catalogue::empty(alloc, Layered, settings);
     let git = Text::of(alloc, "git")?;
@@ -109,6 +110,7 @@ fn refuses_what_is_too_large(rt: HostRuntime) -> Result<(), Fail> {
         interval: 120000,
         lease: 60000,
         input_limit: 10,
+        orphans: OrphanRule::Keep,
     };
     let mut catalogue = Catalogue::empty(alloc, Layered, settings);
     let first = Text::of(alloc, "file:/a")?;

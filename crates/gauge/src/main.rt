@@ -3,8 +3,8 @@
 //!
 //! Its words are `read`, `write` or `check`, and how often. Standard input is a JSON list of descriptors; after `read-yaml`, and
 //! how often, it is a text in block YAML. It prints how many descriptors it went over in all, and how many faults it found.
-//! After the word `yaml` alone it prints the documents of a text in block YAML as a JSON list, or the fault. It promises
-//! nothing.
+//! After the word `yaml` or `json` alone it is texts, which NUL parts: for each it prints a line, the documents of a text in
+//! block YAML as a JSON list, or the JSON of a text in JSON, or the fault. It promises nothing.
 #![tactic(auto)]
 
 use cat_schema::rules::check;
@@ -38,11 +38,36 @@ fn documents(alloc: Global, bytes: &[u8]) -> Result<Tree, TreeFault> {
     Ok(Tree::List(Trees::from_vec(read_yaml(alloc, bytes)?)))
 }
 
-// The JSON of the documents of a text in block YAML.
-fn converted(alloc: Global, bytes: &[u8]) -> Result<Vec<u8>, TreeFault> {
-    let list = documents(alloc, bytes)?;
+// The tree of a text in JSON, or the documents of one in block YAML.
+fn tree_of(alloc: Global, word: &str, bytes: &[u8]) -> Result<Tree, TreeFault> {
+    if word == "yaml" {
+        documents(alloc, bytes)
+    } else {
+        read(alloc, bytes)
+    }
+}
+
+// Puts a line with the JSON of a text, or with its fault, behind those so far.
+fn push_answer(
+    alloc: Global,
+    word: &str,
+    bytes: &[u8],
+    out: &mut Vec<u8>,
+) -> Result<(), AllocError> {
+    match tree_of(alloc, word, bytes) {
+        Ok(tree) => write(alloc, &tree, out)?,
+        Err(fault) => out.extend_from_slice(name_of(fault).as_bytes())?,
+    }
+    out.push(b'\n')?;
+    Ok(())
+}
+
+// A line for each text.
+fn answers(alloc: Global, word: &str, bytes: &[u8]) -> Result<Vec<u8>, AllocError> {
     let mut out = Vec::new(alloc);
-    write(alloc, &list, &mut out)?;
+    for text in bytes.split(|byte| *byte == 0) {
+        push_answer(alloc, word, text, &mut out)?;
+    }
     Ok(out)
 }
 
@@ -97,10 +122,10 @@ fn main(rt: HostRuntime) -> io::Result<()> {
     };
     let mut bytes = Vec::new(alloc);
     rt.stdin().read_to_end(&mut bytes)?;
-    if word.as_str() == "yaml" {
-        return match converted(alloc, bytes.as_slice()) {
+    if word.as_str() == "yaml" || word.as_str() == "json" {
+        return match answers(alloc, word.as_str(), bytes.as_slice()) {
             Ok(text) => rt.stdout().write_all(text.as_slice()),
-            Err(fault) => println!(rt; "{}", name_of(fault)),
+            Err(_) => println!(rt; "no memory"),
         };
     }
     let gone_over = match word.as_str() {

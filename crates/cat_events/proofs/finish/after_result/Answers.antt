@@ -21,7 +21,7 @@ framed-requires-clause-touches g c =
 pub returns-clause-state : goal.returns-clause-state
 returns-clause-state g c =
     IfOk-weaker c.framed.result _ _
-    (λ x e. result_framed g.L.Layers.rules c.args.settings.now c.order.result.now c.args.done.now.order.now c.args.now c.args.kept.now c.outcome.result.now c.args.m.now c.in_ok-n.n x.0 c.order.ensures c.outcome.ensures c.in_ok-n.ensures.state e)
+    (λ x e. result_framed g.L.Layers.rules c.args.settings.now c.order.result.now c.args.done.now.order.now c.args.now c.args.kept.now c.outcome.result.now c.args.m.now c.in_ok-n.n x.0 c.leaving.result c.order.ensures c.outcome.ensures c.in_ok-n.ensures.state c.leaving.ensures e)
     c.framed.ensures.state
 
 pub returns-clause-linked : goal.returns-clause-linked

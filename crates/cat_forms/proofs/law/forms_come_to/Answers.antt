@@ -1,3 +1,4 @@
+use Rattle.cat_model.specs.declared.types.OrphanRule.TheVariants.{Keep}
 use Rattle.cat_model.specs.declared.types.Settings.{Settings}
 use Rattle.cat_laws.proofs.Forms.{row_form, work_form, parts_form}
 use Rattle.cat_layers.specs.Layered.{layered}
@@ -6,7 +7,7 @@ use Rattle.cat_forms.specs.Real.{real_forms}
 use Rattle.cat_forms.proofs.law.forms_come_to.Goals as goal
 
 no_settings : Settings
-no_settings = record { interval = 1; lease = 1; input_limit = 0 }
+no_settings = record { interval = 1; lease = 1; input_limit = 0; orphans = Keep }
 
 pub returns-clause-names : goal.returns-clause-names
 returns-clause-names c m p x h e = (h.providers p x e).name

@@ -33,3 +33,9 @@ returns-clause-ticket g c = λ n change.
     planned_ticket g.L.Layers.rules x.how x.own.now x.shelf.now x.rows.now x.holders.now x.fresh.now x.leaving.now x.touched.now x.m.now n c.requires.sound c.requires.reach change
     c.requires.ordered x.links.now c.args.plan.now.after c.args.plan.now.changed c.requires.before (c.requires.after n change) c.requires.changed
     c.as_slice.result.now c.in_ok-moved.moved c.as_slice-5.result.now _ (c.as_slice.ensures.value ∙ asked) c.in_ok-moved.ensures c.as_slice-5.ensures c.count_of.ensures.count
+
+pub moved-requires-clause-rises : goal.moved-requires-clause-rises
+moved-requires-clause-rises g c = c.requires.changed.rises
+
+pub moved-requires-clause-apart : goal.moved-requires-clause-apart
+moved-requires-clause-apart g c = c.requires.changed.sound

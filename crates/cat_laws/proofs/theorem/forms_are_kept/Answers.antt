@@ -1,10 +1,11 @@
 -- Forms are kept.
+use Rattle.cat_model.specs.declared.types.OrphanRule.TheVariants.{Keep}
 use Rattle.cat_model.specs.declared.types.Settings.{Settings}
 use Rattle.cat_laws.proofs.Forms.{start_form, run_form, settle_form, reopened_form, row_form, work_form, parts_form}
 use Rattle.cat_laws.proofs.theorem.forms_are_kept.Goals as goal
 
 no_settings : Settings
-no_settings = record { interval = 1; lease = 1; input_limit = 0 }
+no_settings = record { interval = 1; lease = 1; input_limit = 0; orphans = Keep }
 
 pub returns-clause-begins : goal.returns-clause-begins
 returns-clause-begins c rules form = start_form rules form

@@ -3,12 +3,13 @@ use Rattle.cat_desk.specs.Deed.Deed.{PutStitch}
 use Rattle.cat_session.proofs.Lines.{carried, places}
 use Rattle.cat_session.proofs.Said.{ok_then}
 use Rattle.cat_session.specs.Carried.{CarriesDeed}
+use Rattle.cat_transcript.specs.Program.{program_settings}
 use Rattle.cat_session.proofs.session.Session.place.Goals as goal
 
 pub returns-in_ok-stitched-in-Some-clause-ok : goal.returns-in_ok-stitched-in-Some-clause-ok
 returns-in_ok-stitched-in-Some-clause-ok g c =
     let d = c.self.inside.desk in
     ok_then c.act.result _ _ c.act.ensures.ok
-    (λ text h. carried g.L.Layers.rules d.catalogue c.act.new.desk.catalogue c.self.invariant d.clock.moment c.act.new.desk.clock.moment c.act.ensures.clock c.self.inside.orders.items c.self.inside.stitches c.args.self.now c.self.view_is text.items _ _ (PutStitch c.in-Some.order.now) refl
-    (places g.L.Layers.rules d.clock.moment c.self.inside.orders.items c.self.inside.stitches d.catalogue.state c.args.ticket c.in-Some.order.now (sym c.get.ensures ∙ ap (option_map (λ x. x.now)) c.in-Some.is))
+    (λ text h. carried g.L.Layers.rules c.self.inside.orphans d.catalogue c.act.new.desk.catalogue c.self.invariant d.clock.moment c.act.new.desk.clock.moment c.act.ensures.clock c.self.inside.orders.items c.self.inside.stitches c.args.self.now c.self.view_is text.items _ _ (PutStitch c.in-Some.order.now) refl
+    (places g.L.Layers.rules (program_settings c.self.inside.orphans) d.clock.moment c.self.inside.orders.items c.self.inside.stitches d.catalogue.state c.args.ticket c.in-Some.order.now (sym c.get.ensures ∙ ap (option_map (λ x. x.now)) c.in-Some.is))
     (subst (λ x. CarriesDeed g.L.Layers.rules d.clock.moment (PutStitch x) d.catalogue c.act.new.desk.catalogue text.items) c.in_ok-stitched-in-Some.ensures h))

@@ -1,0 +1,18 @@
+use Rattle.std.proofs.Common.{◌≡◌, ◌&&◌, is_some, sym, ap, ◌∙◌}
+use Rattle.std.specs.declared.option.Option.{Option}
+use Rattle.std.specs.Option.{option_and_then}
+use Rattle.std.specs.List.{list_any}
+use Rattle.cat_table.specs.Table.{get, put, same_text, text_cmp}
+use Rattle.cat_model.specs.declared.types.Record.{Record}
+use Rattle.cat_frame.proofs.Shifted.{shifted}
+use Rattle.cat_events.proofs.alone.has_moved.Goals as goal
+
+pub returns-then-is_relinked : goal.returns-then-is_relinked
+returns-then-is_relinked g c =
+    let x = c.args.change.now in
+    let r = c.args.reference.now in
+    let m = x.m.now in
+    let plan = x.plan.now in
+    sym (shifted g.L.Layers.rules x.links.now plan.after plan.changed r (get m.orphans r) (get m.orphans r) (get m.records r) (get (put text_cmp x.reference.now x.kept.now m.records) r)
+    c.requires.apart
+    (sym (c.is_relinked.ensures ∙ ap (λ (v : Option Record). list_any (same_text r) plan.changed && is_some (option_and_then (λ (y : Record). y.output) v)) c.record_after-kept.ensures) ∙ c.if-is_relinked.true))
