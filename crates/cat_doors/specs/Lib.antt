@@ -1,0 +1,4 @@
+pub mod Doors
+pub mod Memory
+pub mod Counted
+pub mod Hall

@@ -1,0 +1,5 @@
+pub mod Finds
+pub mod Walked
+pub mod Leads
+pub mod Kept
+pub mod Asked

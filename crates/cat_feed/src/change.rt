@@ -1,0 +1,44 @@
+//! Changes of documents, and places among them.
+ghost use Rattle.std.specs.Prelude.{◌≡◌, IfOk, map};
+
+use cat_ref::reference::Ref;
+use cat_table::listing::{Copied, Listing};
+use cat_types::node::Node;
+use std::alloc::{AllocError, Global};
+
+/// A change under a reference: the document that is there now, or that none is there any more. A feed numbers its changes in the
+/// order in which it found them.
+#[derive(Drop)]
+pub struct Change {
+    pub number: u64,
+    pub reference: Ref,
+    pub set: Option<Node>,
+}
+
+/// Changes in order.
+pub type ChangeList = Listing<Change>;
+
+/// A place in a feed: the feed's epoch, and the number of its last change that is known there.
+#[derive(Clone, Copy, Debug, Drop, PartialEq, Eq)]
+pub struct Since {
+    pub epoch: u64,
+    pub number: u64,
+}
+
+/// What leads from one place to another: the changes between them; or, from nowhere, a change for each document.
+#[derive(Drop)]
+pub struct Changes {
+    pub from: Option<Since>,
+    pub to: Since,
+    pub list: ChangeList,
+}
+
+impl Copied for Change {
+    fn duplicate(&self, alloc: Global) -> Result<Change, AllocError> {
+        Ok(Change {
+            number: self.number,
+            reference: self.reference.copy(alloc)?,
+            set: self.set.duplicate(alloc)?,
+        })
+    }
+}

@@ -1,0 +1,4 @@
+pub mod Tables
+pub mod Store
+pub mod Answers
+pub mod Memory
