@@ -5,6 +5,8 @@ use Rattle.std.specs.Fmt.{decimal}
 use Rattle.std.proofs.Common.{inl, inr}
 use Rattle.std.proofs.lemmas.Bool.Decides.{eqb_tells}
 use Rattle.std.proofs.lemmas.Fmt.{length-decimal-le}
+use Rattle.cat_changes.specs.Place.{since_text}
+use Rattle.cat_feed.specs.declared.change.Since.{Since}
 use Rattle.cat_http.specs.Errors.{error_body}
 use Rattle.cat_http.specs.Reply.{is_named, phrase_of, status_line, content_lines, allow_line, close_line, end_of, reply_bytes}
 use Rattle.cat_http.specs.declared.message.Message.{Message}
@@ -51,6 +53,13 @@ numbered_short words n w h =
     let b = length-append (decimal n) [] in
     omega (arith, a, b, w, short_decimal n h)
 
+place_short : (words : List ℕ) (place : Since) → length words ≤ 12 → (place.epoch < 2 ^ 64) × (place.number < 2 ^ 64) → length (joined (words ∷ since_text place ∷ [])) ≤ 60
+place_short words place w h =
+    let a = length-append words (since_text place ++ []) in
+    let b = length-append (since_text place) [] in
+    let c = length-append (decimal place.epoch) (46 ∷ decimal place.number) in
+    omega (arith, a, b, c, w, short_decimal place.epoch h.0, short_decimal place.number h.1)
+
 spent_short : (counter : Counter) → length (joined (words_of (refusal.Spent counter))) ≤ 60
 spent_short counter =
     let a = length-append (codes "spent ") (counter_text counter ++ []) in
@@ -77,11 +86,15 @@ words_short (refusal.Reference i) s n = numbered_short (codes "reference ") i (o
 words_short (refusal.Input fault) s n = absurd s
 words_short (refusal.Query fault) s n = absurd s
 words_short refusal.Facet s n = omega arith
+words_short refusal.Place s n = omega arith
+words_short (refusal.Gone place) s n = place_short (codes "gone ") place (omega arith) n
+words_short (refusal.Ahead place) s n = place_short (codes "ahead ") place (omega arith) n
 words_short (refusal.OldSerial last) s n = numbered_short (codes "old_serial ") last (omega arith) n
 words_short (refusal.TooLarge sum) s n = numbered_short (codes "too_large ") sum (omega arith) n
 words_short (refusal.Spent counter) s n = spent_short counter
 words_short (refusal.CutByCounter events counter) s n = cut_short events counter n
 words_short (refusal.CutByMemory events) s n = numbered_short (codes "memory ") events (omega arith) n
+words_short refusal.SpentFeed s n = omega arith
 words_short refusal.Reply s n = omega arith
 words_short refusal.NoMemory s n = omega arith
 
@@ -96,11 +109,15 @@ status_small (refusal.Reference i) = omega arith
 status_small (refusal.Input fault) = omega arith
 status_small (refusal.Query fault) = omega arith
 status_small refusal.Facet = omega arith
+status_small refusal.Place = omega arith
+status_small (refusal.Gone place) = omega arith
+status_small (refusal.Ahead place) = omega arith
 status_small (refusal.OldSerial last) = omega arith
 status_small (refusal.TooLarge sum) = omega arith
 status_small (refusal.Spent counter) = omega arith
 status_small (refusal.CutByCounter events counter) = omega arith
 status_small (refusal.CutByMemory events) = omega arith
+status_small refusal.SpentFeed = omega arith
 status_small refusal.Reply = omega arith
 status_small refusal.NoMemory = omega arith
 
@@ -148,11 +165,15 @@ allows_none (refusal.Reference i) s = refl
 allows_none (refusal.Input fault) s = absurd s
 allows_none (refusal.Query fault) s = absurd s
 allows_none refusal.Facet s = refl
+allows_none refusal.Place s = refl
+allows_none (refusal.Gone place) s = refl
+allows_none (refusal.Ahead place) s = refl
 allows_none (refusal.OldSerial last) s = refl
 allows_none (refusal.TooLarge sum) s = refl
 allows_none (refusal.Spent counter) s = refl
 allows_none (refusal.CutByCounter events counter) s = refl
 allows_none (refusal.CutByMemory events) s = refl
+allows_none refusal.SpentFeed s = refl
 allows_none refusal.Reply s = refl
 allows_none refusal.NoMemory s = refl
 
@@ -183,8 +204,8 @@ line_short s named =
     let P : ℕ → Type 0 = λ n. length (status_line n) ≤ 64 in
     first_or_rest P 200 s _ (omega arith) (λ h. first_or_rest P 204 s _ (omega arith) (λ h. first_or_rest P 400 s _ (omega arith) (λ h.
     first_or_rest P 404 s _ (omega arith) (λ h. first_or_rest P 405 s _ (omega arith) (λ h. first_or_rest P 409 s _ (omega arith) (λ h.
-    first_or_rest P 413 s _ (omega arith) (λ h. first_or_rest P 431 s _ (omega arith) (λ h. first_or_rest P 500 s _ (omega arith) (λ h.
-    first_or_rest P 501 s _ (omega arith) (λ h. first_or_rest P 503 s _ (omega arith) (λ h. first_or_rest P 507 s false (omega arith) (λ h. cc) h) h) h) h) h) h) h) h) h) h) h) named
+    first_or_rest P 410 s _ (omega arith) (λ h. first_or_rest P 413 s _ (omega arith) (λ h. first_or_rest P 431 s _ (omega arith) (λ h. first_or_rest P 500 s _ (omega arith) (λ h.
+    first_or_rest P 501 s _ (omega arith) (λ h. first_or_rest P 503 s _ (omega arith) (λ h. first_or_rest P 507 s false (omega arith) (λ h. cc) h) h) h) h) h) h) h) h) h) h) h) h) named
 
 content_short : (s : ℕ) (body : List ℕ) → length body < 2 ^ 64 → length (content_lines s body) ≤ 80
 content_short s body h =
@@ -231,7 +252,7 @@ reply_short r named b =
     )
 
 -- an answer that is there has what follows of it
-if_ok : {T E : Type 0} (P Q : T → Type 0) (r : Result T E) → ((x : T) → P x → Q x) → IfOk r P → IfOk r Q
+pub if_ok : {T E : Type 0} (P Q : T → Type 0) (r : Result T E) → ((x : T) → P x → Q x) → IfOk r P → IfOk r Q
 if_ok P Q (Ok x) f h = f x h
 if_ok P Q (Err e) f h = tt
 

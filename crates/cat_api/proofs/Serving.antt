@@ -1,35 +1,45 @@
--- A message at the moment 0, carried out by a desk that is a catalogue with a clock.
-use Rattle.std.proofs.Common.{◌≡◌, ◌≢◌, ℕ, List, refl, sym, ap, ◌∙◌, subst, inl, inr}
+-- A message at the moment 0, carried out by a desk that is a catalogue with a clock and a feed.
+use Rattle.std.proofs.Common.{◌≡◌, ◌≢◌, ◌⊎◌, ℕ, List, refl, sym, ap, ◌∙◌, subst, inl, inr}
+use Rattle.std.specs.Prelude.{if◌then◌else◌, Option}
 use Rattle.std.specs.declared.result.Result.{Result}
 use Rattle.std.specs.declared.result.Result.TheVariants.{Ok, Err}
 use Rattle.cat_core.specs.declared.ledger.Ledger.{Ledger}
 use Rattle.cat_desk.specs.Acts.{Acts, ActsOnce, after_deed, deed_reply}
 use Rattle.cat_desk.specs.Asks.{AsksOnce, IsAnswer}
 use Rattle.cat_desk.specs.Deed.{Deed}
-use Rattle.cat_desk.specs.Deed.Deed.{Mutate as Mutated, ShelfPut as PutOnShelf, ShelfDrop as DroppedFromShelf, Refresh as Refreshed, ForgetNumber as NumberForgotten, Settle as Settles}
 use Rattle.cat_desk.specs.declared.command.Asked.{Asked}
 use Rattle.cat_desk.specs.declared.command.Asked.TheVariants.{Written, NotFound, NoFacet, NoMemory}
 use Rattle.cat_desk.specs.declared.command.Reply.{Reply}
+use Rattle.cat_fed.specs.Told.{Tells}
+use Rattle.cat_fed.specs.declared.desk.FeedAnswer.{FeedAnswer}
+use Rattle.cat_fed.specs.declared.desk.FeedAnswer.TheVariants as told
+use Rattle.cat_feed.specs.Changes.{Documents}
+use Rattle.cat_feed.specs.Feed.{asked, feed_after, is_taken, taken_in}
+use Rattle.cat_feed.specs.declared.change.Changes.{Changes}
+use Rattle.cat_feed.specs.declared.change.Since.{Since}
+use Rattle.cat_feed.specs.declared.fault.FeedFault.{FeedFault}
+use Rattle.cat_feed.specs.declared.fault.FeedFault.TheVariants as fault
+use Rattle.cat_feed.specs.declared.ledger.Ledger.{Ledger as Feed}
 use Rattle.cat_http.specs.Reply.{reply_bytes}
 use Rattle.cat_http.specs.declared.message.Message.{Message}
 use Rattle.cat_http.specs.declared.reply.HttpReply.{HttpReply}
-use Rattle.cat_loop.specs.Word.{Word, plain, IsActing}
+use Rattle.cat_loop.specs.Word as deeds
 use Rattle.cat_model.specs.Catalogue.{Rules}
-use Rattle.cat_model.specs.Given.{given}
+use Rattle.cat_model.specs.declared.types.State.{State}
 use Rattle.cat_query.specs.declared.ask.Ask.{Ask as Question}
 use Rattle.cat_replies.specs.Asks.{AskFault, ask_text}
-use Rattle.cat_api.specs.Answering.{Acting, Asking, ActsBy, Carries, Answers, Lacks}
-use Rattle.cat_api.specs.Room.{IsBrief, IsBriefBy}
-use Rattle.cat_api.specs.Deeds.{act_answer, ask_answer, asked_answer}
-use Rattle.cat_api.specs.Wire.{after_request, after_requested, wire_after, request_answer, requested_answer, wire_reply}
+use Rattle.cat_api.specs.Answering.{Acting, Asking, Telling, Carries, Answers, AnswersBytes, LacksIn, Lacks}
+use Rattle.cat_api.specs.Deeds.{act_answer, ask_answer, asked_answer, changes_answer, told_answer}
+use Rattle.cat_api.specs.Operations.{Operation, operation}
+use Rattle.cat_api.specs.Operations.Operation.{Act, Ask, Tell}
+use Rattle.cat_api.specs.Wire.{Wired, after_operation, after_requested, operation_answer, requested_answer, wire_after, wire_reply}
 use Rattle.cat_api.specs.declared.kind.Kind.{Kind}
-use Rattle.cat_api.specs.declared.kind.Kind.TheVariants.{Mutation, Shelving, Refreshing, Forgetting, Settling}
-use Rattle.cat_api.proofs.Said.{Did, did, stayed, ledger_is}
+use Rattle.cat_api.proofs.Said.{did, stayed}
 use Rattle.cat_requests.specs.Answers.{reply_to}
 use Rattle.cat_requests.specs.Requests.{request_of}
 use Rattle.cat_requests.specs.declared.refusal.Refusal.{Refusal}
 use Rattle.cat_requests.specs.declared.request.Request.{Request}
-use Rattle.cat_requests.specs.declared.request.Request.TheVariants.{Mutate, ShelfPut, ShelfDrop, Refresh, Forget, Settle, Ask}
+use Rattle.cat_wire.specs.Worded.{Word, plain, cut, untold, IsAnswered, AnswersMessage, LacksMemory, IsWorded}
 
 -- what the desk says to a question is the answer to it
 asked_is : (answer : Result (List ℕ) AskFault) (said : Asked) (text : List ℕ) → IsAnswer answer said text → said ≢ NoMemory → asked_answer said text ≡ ask_answer answer
@@ -38,113 +48,152 @@ asked_is answer NotFound text is some = ap ask_answer (sym is.0)
 asked_is answer NoFacet text is some = ap ask_answer (sym is.0)
 asked_is answer NoMemory text is some = absurd (some refl)
 
--- a request was carried out with a word
-pub record Done (rules : Rules) (old new : Ledger) (request : Request) (m : Message) (r : HttpReply) : Type 0 where
-  pub word : Word
-  pub acts : IsActing word
-  pub state : new.state ≡ after_request rules old.settings word request old.state
-  pub settings : new.settings ≡ old.settings
-  pub reply : r ≡ reply_to m (request_answer rules old.settings word request old.state)
+-- the feed after an ask, by what was answered
+after_is : (ds : Documents) (since : Option Since) (old : Feed) (a : Result Changes FeedFault) → asked ds since old ≡ a → feed_after ds since old ≡ (if is_taken a then taken_in ds old else old)
+after_is ds since old a e = ap (λ b. if is_taken b then taken_in ds old else old) e
 
--- the deed of a request was done
-deed_done : (rules : Rules) (old new : Ledger) (d : Deed) (k : Kind) (request : Request) (m : Message) (r : HttpReply) (said : Reply) → Did rules 0 d old new said
-    → ((word : Word) → after_deed rules old.settings 0 word d old.state ≡ after_request rules old.settings word request old.state)
-    → ((word : Word) → act_answer k (deed_reply rules old.settings 0 word d old.state) ≡ request_answer rules old.settings word request old.state)
-    → r ≡ reply_to m (act_answer k said) → Done rules old new request m r
-deed_done rules old new d k request m r said h after answer is = record {
-  word = h.word;
-  acts = h.acts;
-  state = h.state ∙ after h.word;
-  settings = h.settings;
-  reply = is ∙ ap (λ a. reply_to m a) (ap (λ x. act_answer k x) h.answer ∙ answer h.word);
-}
+-- what the desk says to an ask for changes is the answer to it, and the feed is as after it
+told_is : (ds : Documents) (since : Option Since) (old new : Feed) (said : FeedAnswer) (text : List ℕ) → Tells ds since old new said text → said ≢ told.NoMemory
+    → (told_answer said text ≡ changes_answer (asked ds since old)) × (new ≡ feed_after ds since old)
+told_is ds since old new told.Written text t some = (ap (λ l. told_answer told.Written l) t.3 ∙ ap changes_answer (sym t.1), t.2 ∙ sym (after_is ds since old (Ok t.0) t.1))
+told_is ds since old new (told.Gone s) text t some = (ap changes_answer (sym t.0), t.1 ∙ sym (after_is ds since old (Err (fault.Gone s)) t.0))
+told_is ds since old new (told.Ahead s) text t some = (ap changes_answer (sym t.0), t.1 ∙ sym (after_is ds since old (Err (fault.Ahead s)) t.0))
+told_is ds since old new told.Spent text t some = (ap changes_answer (sym t.0), t.1 ∙ sym (after_is ds since old (Err fault.Spent) t.0))
+told_is ds since old new told.NoMemory text t some = absurd (some refl)
 
-module _ {A : Type 0} (acts : Acting A) (asks : Asking A) (rules : Rules) (catalogue : A → Ledger) (old new : A)
-    (did_so : (d : Deed) (reply : Reply) → acts old d new reply → Acts rules 0 d (catalogue old) (catalogue new) reply)
-    (said_so : (q : Question) (said : Asked) (text : List ℕ) → asks old q new said text → (catalogue new ≡ catalogue old) × IsAnswer (ask_text q 0 (catalogue old).state) said text) where
-  same_parts : (a b : Ledger) → a.state ≡ b.state → a.settings ≡ b.settings → a ≡ b
-  same_parts a b e f = λ i. record { settings = f i; state = e i }
+-- where memory was wanted, the feed stayed, or is as after the ask
+untold_is : (ds : Documents) (since : Option Since) (old new : Feed) (said : FeedAnswer) (text : List ℕ) → Tells ds since old new said text → (new ≡ old) ⊎ (new ≡ feed_after ds since old)
+untold_is ds since old new told.Written text t = inr (t.2 ∙ sym (after_is ds since old (Ok t.0) t.1))
+untold_is ds since old new (told.Gone s) text t = inr (t.1 ∙ sym (after_is ds since old (Err (fault.Gone s)) t.0))
+untold_is ds since old new (told.Ahead s) text t = inr (t.1 ∙ sym (after_is ds since old (Err (fault.Ahead s)) t.0))
+untold_is ds since old new told.Spent text t = inl t.1
+untold_is ds since old new told.NoMemory text t = elim t.0 [ inl e ↦ inl e | inr k ↦ inr (k.2 ∙ sym (after_is ds since old (Ok k.0) k.1)) ]
 
-  -- where memory was wanted nothing was done
-  pub lacks_stays : Lacks acts asks old new → catalogue new ≡ catalogue old
-  lacks_stays l = elim l [
-    | inl same ↦ ap catalogue same
-    | inr other ↦ elim other [
-      | inl a ↦ (let s = stayed rules 0 a.0 (catalogue old) (catalogue new) a.1 (did_so a.0 a.1 a.2) a.3 in same_parts (catalogue new) (catalogue old) s.0 s.1)
-      | inr q ↦ (said_so q.0 q.1 q.2 q.3).0
+-- ---- a catalogue with a clock and a feed
+
+module _ {A T : Type 0} (rules : Rules) (timed : A → T) (catalogue : T → Ledger) (moment readings : T → ℕ) (feed : A → Feed) where
+  abbrev pub acts_at : Acting A
+  acts_at old d new reply =
+      (ActsOnce rules (moment (timed new)) (readings (timed old)) (readings (timed new)) d (catalogue (timed old)) (catalogue (timed new)) reply × (moment (timed new) ≡ moment (timed old)))
+      × (feed new ≡ feed old)
+
+  abbrev pub asks_at : Asking A
+  asks_at old q new said text =
+      (AsksOnce (moment (timed new)) (readings (timed old)) (readings (timed new)) q (catalogue (timed old)) (catalogue (timed new)) said text × (moment (timed new) ≡ moment (timed old)))
+      × (feed new ≡ feed old)
+
+  abbrev pub tells_at : Telling A
+  tells_at old since new said text = Tells (catalogue (timed old)).state.documents since (feed old) (feed new) said text × (timed new ≡ timed old)
+
+  -- it stands at the moment 0
+  abbrev pub IsAtZero : A → Type 0
+  IsAtZero a = moment (timed a) ≡ 0
+
+  -- the catalogue and its feed
+  abbrev pub wired : A → Wired
+  wired a = record { catalogue = catalogue (timed a); feed = feed a }
+
+  wired_is : (old new : A) (state : State) (told : Feed) → (catalogue (timed new)).state ≡ state → (catalogue (timed new)).settings ≡ (catalogue (timed old)).settings → feed new ≡ told
+      → wired new ≡ record { catalogue = record (catalogue (timed old)) { state = state }; feed = told }
+  wired_is old new state told e f g = λ i. record { catalogue = record { settings = f i; state = e i }; feed = g i }
+
+  same_is : (old new : A) → (catalogue (timed new)).state ≡ (catalogue (timed old)).state → (catalogue (timed new)).settings ≡ (catalogue (timed old)).settings → feed new ≡ feed old → wired new ≡ wired old
+  same_is old new e f g = λ i. record { catalogue = record { settings = f i; state = e i }; feed = g i }
+
+  -- an operation was done with a word
+  abbrev Done : A → A → Operation → Message → HttpReply → Type 0
+  Done old new o m r =
+      IsAtZero new × ((word : Word) × IsAnswered word × (wired new ≡ after_operation rules word o (wired old)) × (r ≡ reply_to m (operation_answer rules word o (wired old))))
+
+  module _ (old new : A) (zero : IsAtZero old) where
+    did_at : (d : Deed) (reply : Reply) → acts_at old d new reply → Acts rules 0 d (catalogue (timed old)) (catalogue (timed new)) reply
+    did_at d reply h = subst (λ n. Acts rules n d (catalogue (timed old)) (catalogue (timed new)) reply) (h.0.1 ∙ zero) h.0.0.acts
+
+    said_at : (q : Question) (said : Asked) (text : List ℕ) → asks_at old q new said text → IsAnswer (ask_text q 0 (catalogue (timed old)).state) said text
+    said_at q said text h = subst (λ n. IsAnswer (ask_text q n (catalogue (timed old)).state) said text) (h.0.1 ∙ zero) h.0.0.answer
+
+    acted_by : (d : Deed) (k : Kind) (m : Message) (r : HttpReply) (reply : Reply) (word : deeds.Word) → deeds.IsActing word
+        → (catalogue (timed new)).state ≡ after_deed rules (catalogue (timed old)).settings 0 word d (catalogue (timed old)).state
+        → (catalogue (timed new)).settings ≡ (catalogue (timed old)).settings → feed new ≡ feed old
+        → reply ≡ deed_reply rules (catalogue (timed old)).settings 0 word d (catalogue (timed old)).state → r ≡ reply_to m (act_answer k reply) → IsAtZero new → Done old new (Act d k) m r
+    acted_by d k m r reply deeds.plain acts state settings told answer is at = (at, (plain, tt, wired_is old new _ _ state settings told, is ∙ ap (λ x. reply_to m (act_answer k x)) answer))
+    acted_by d k m r reply deeds.memory acts state settings told answer is at = absurd acts
+    acted_by d k m r reply (deeds.cut n) acts state settings told answer is at = (at, (cut n, tt, wired_is old new _ _ state settings told, is ∙ ap (λ x. reply_to m (act_answer k x)) answer))
+
+    done_at : (o : Operation) (m : Message) (r : HttpReply) → Carries acts_at asks_at tells_at old new o m r → Done old new o m r
+    done_at (Act d k) m r h =
+        let w = did rules 0 d (catalogue (timed old)) (catalogue (timed new)) h.0 (did_at d h.0 h.1) h.2 in
+        acted_by d k m r h.0 w.word w.acts w.state w.settings h.1.1 w.answer h.3 (h.1.0.1 ∙ zero)
+    done_at (Ask q) m r h =
+        let same = h.2.0.0.same in (
+          h.2.0.1 ∙ zero,
+          (
+            plain,
+            tt,
+            wired_is old new _ _ (ap (λ l. l.state) same) (ap (λ l. l.settings) same) h.2.1,
+            h.4 ∙ ap (λ a. reply_to m a) (asked_is (ask_text q 0 (catalogue (timed old)).state) h.0 h.1 (said_at q h.0 h.1 h.2) h.3),
+          ),
+        )
+    done_at (Tell since) m r h =
+        let t = told_is (catalogue (timed old)).state.documents since (feed old) (feed new) h.0 h.1 h.2.0 h.3 in (
+          ap moment h.2.1 ∙ zero,
+          (
+            plain,
+            tt,
+            wired_is old new _ _ (ap (λ x. (catalogue x).state) h.2.1) (ap (λ x. (catalogue x).settings) h.2.1) t.1,
+            h.4 ∙ ap (λ a. reply_to m a) t.0,
+          ),
+        )
+
+    -- memory was wanted for an operation
+    lacked_at : (o : Operation) → LacksIn acts_at asks_at tells_at old new o → IsAtZero new × ((wired new ≡ wired old) ⊎ (wired new ≡ after_operation rules untold o (wired old)))
+    lacked_at (Act d k) h = elim h [
+      | inl e ↦ (subst IsAtZero (sym e) zero, inl (ap wired e))
+      | inr a ↦
+          let s = stayed rules 0 d (catalogue (timed old)) (catalogue (timed new)) a.0 (did_at d a.0 a.1) a.2 in
+          (a.1.0.1 ∙ zero, inl (same_is old new s.0 s.1 a.1.1))
     ]
-  ]
+    lacked_at (Ask q) h = elim h [
+      | inl e ↦ (subst IsAtZero (sym e) zero, inl (ap wired e))
+      | inr a ↦ (a.2.0.1 ∙ zero, inl (same_is old new (ap (λ l. l.state) a.2.0.0.same) (ap (λ l. l.settings) a.2.0.0.same) a.2.1))
+    ]
+    lacked_at (Tell since) h = elim h [
+      | inl e ↦ (subst IsAtZero (sym e) zero, inl (ap wired e))
+      | inr a ↦
+          let state = ap (λ x. (catalogue x).state) a.2.1 in
+          let settings = ap (λ x. (catalogue x).settings) a.2.1 in (
+            ap moment a.2.1 ∙ zero,
+            elim (untold_is (catalogue (timed old)).state.documents since (feed old) (feed new) a.0 a.1 a.2.0) [
+              | inl e ↦ inl (same_is old new state settings e)
+              | inr e ↦ inr (wired_is old new _ _ state settings e)
+            ],
+          )
+    ]
 
-  acted_done : (d : Deed) (k : Kind) (request : Request) (m : Message) (r : HttpReply)
-      → ((word : Word) → after_deed rules (catalogue old).settings 0 word d (catalogue old).state ≡ after_request rules (catalogue old).settings word request (catalogue old).state)
-      → ((word : Word) → act_answer k (deed_reply rules (catalogue old).settings 0 word d (catalogue old).state) ≡ request_answer rules (catalogue old).settings word request (catalogue old).state)
-      → ActsBy acts old new d k m r → Done rules (catalogue old) (catalogue new) request m r
-  acted_done d k request m r after answer h =
-      deed_done rules (catalogue old) (catalogue new) d k request m r h.0 (did rules 0 d (catalogue old) (catalogue new) h.0 (did_so d h.0 h.1) h.2) after answer h.3
+    requested_at : (asked : Result Request Refusal) (m : Message) (r : HttpReply) → Answers acts_at asks_at tells_at old new asked m r
+        → IsAtZero new × ((word : Word) × IsAnswered word × (wired new ≡ after_requested rules word asked (wired old)) × (r ≡ reply_to m (requested_answer rules word asked (wired old))))
+    requested_at (Ok request) m r h = done_at (operation request) m r h
+    requested_at (Err refusal) m r h = (subst IsAtZero (sym h.0) zero, (plain, tt, ap wired h.0, h.1))
 
-  carried : (request : Request) (m : Message) (r : HttpReply) → Carries acts asks old new request m r → Done rules (catalogue old) (catalogue new) request m r
-  carried (Mutate provider x) m r h = acted_done (Mutated provider (given provider x)) Mutation (Mutate provider x) m r (λ word. refl) (λ word. refl) h
-  carried (ShelfPut name text) m r h = acted_done (PutOnShelf name text) Shelving (ShelfPut name text) m r (λ word. refl) (λ word. refl) h
-  carried (ShelfDrop name) m r h = acted_done (DroppedFromShelf name) Shelving (ShelfDrop name) m r (λ word. refl) (λ word. refl) h
-  carried (Refresh reference) m r h = acted_done (Refreshed reference) Refreshing (Refresh reference) m r (λ word. refl) (λ word. refl) h
-  carried (Forget number) m r h = acted_done (NumberForgotten number) Forgetting (Forget number) m r (λ word. refl) (λ word. refl) h
-  carried Settle m r h = acted_done Settles Settling Settle m r (λ word. refl) (λ word. refl) h
-  carried (Ask q) m r h =
-      let s = said_so q h.0 h.1 h.2 in
-      record {
-        word = plain;
-        acts = tt;
-        state = ap (λ l. l.state) s.0;
-        settings = ap (λ l. l.settings) s.0;
-        reply = h.4 ∙ ap (λ a. reply_to m a) (asked_is (ask_text q 0 (catalogue old).state) h.0 h.1 s.1 h.3);
-      }
+    wanted_at : (asked : Result Request Refusal) → Lacks acts_at asks_at tells_at old new asked → IsAtZero new × ((wired new ≡ wired old) ⊎ (wired new ≡ after_requested rules untold asked (wired old)))
+    wanted_at (Ok request) h = lacked_at (operation request) h
+    wanted_at (Err refusal) h = (subst IsAtZero (sym h) zero, inl (ap wired h))
 
-  answered_by : (asked : Result Request Refusal) (m : Message) (r : HttpReply) → Answers acts asks old new asked m r
-      → (word : Word) × IsActing word × (catalogue new ≡ record (catalogue old) { state = after_requested rules (catalogue old).settings word asked (catalogue old).state })
-      × (r ≡ reply_to m (requested_answer rules (catalogue old).settings word asked (catalogue old).state))
-  answered_by (Ok request) m r h =
-      let d = carried request m r h in
-      (d.word, d.acts, ledger_is (catalogue old) (catalogue new) (after_request rules (catalogue old).settings d.word request (catalogue old).state) d.state d.settings, d.reply)
-  answered_by (Err refusal) m r h = (plain, tt, ap catalogue h.0, h.1)
+    answered_at : (m : Message) (text : List ℕ) → AnswersBytes acts_at asks_at tells_at old m new text → IsAtZero new × AnswersMessage (wire_after rules) (wire_reply rules) (wired old) m (wired new) text
+    unfolding wire_after wire_reply
+    answered_at m text h =
+        let a = requested_at (request_of m) m h.0 h.1 in
+        (a.0, (a.1.0, a.1.1, a.1.2, h.2 ∙ ap reply_bytes a.1.3))
 
-  -- the state and the bytes of the reply are those of the abstract catalogue
-  pub answers_wire : (m : Message) (r : HttpReply) (text : List ℕ) → Answers acts asks old new (request_of m) m r → text ≡ reply_bytes r
-      → (word : Word) × IsActing word × (catalogue new ≡ wire_after rules (catalogue old) word m) × (text ≡ wire_reply rules (catalogue old) word m)
-  unfolding wire_after wire_reply
-  answers_wire m r text h is =
-      let a = answered_by (request_of m) m r h in
-      (a.0, a.1, a.2, is ∙ ap reply_bytes a.3)
+    wants_at : (m : Message) → Lacks acts_at asks_at tells_at old new (request_of m) → IsAtZero new × LacksMemory (wire_after rules) (wired old) m (wired new)
+    unfolding wire_after
+    wants_at m h = wanted_at (request_of m) h
 
--- ---- at a desk with a clock
-
-abbrev pub acts_at : {A : Type 0} → Rules → (A → Ledger) → (A → ℕ) → (A → ℕ) → Acting A
-acts_at rules catalogue moment readings old d new reply = ActsOnce rules (moment new) (readings old) (readings new) d (catalogue old) (catalogue new) reply × (moment new ≡ moment old)
-
-abbrev pub asks_at : {A : Type 0} → (A → Ledger) → (A → ℕ) → (A → ℕ) → Asking A
-asks_at catalogue moment readings old q new said text = AsksOnce (moment new) (readings old) (readings new) q (catalogue old) (catalogue new) said text × (moment new ≡ moment old)
-
-module _ {A : Type 0} (old new : A) (rules : Rules) (catalogue : A → Ledger) (moment readings : A → ℕ) (zero : moment old ≡ 0) where
-  acted_at : (d : Deed) (reply : Reply) → acts_at rules catalogue moment readings old d new reply → Acts rules 0 d (catalogue old) (catalogue new) reply
-  acted_at d reply h = subst (λ n. Acts rules n d (catalogue old) (catalogue new) reply) (h.1 ∙ zero) h.0.acts
-
-  asked_at : (q : Question) (said : Asked) (text : List ℕ) → asks_at catalogue moment readings old q new said text → (catalogue new ≡ catalogue old) × IsAnswer (ask_text q 0 (catalogue old).state) said text
-  asked_at q said text h = (h.0.same, subst (λ n. IsAnswer (ask_text q n (catalogue old).state) said text) (h.1 ∙ zero) h.0.answer)
-
-  pub stays : Lacks (acts_at rules catalogue moment readings) (asks_at catalogue moment readings) old new → catalogue new ≡ catalogue old
-  stays l = lacks_stays (acts_at rules catalogue moment readings) (asks_at catalogue moment readings) rules catalogue old new acted_at asked_at l
-
-  pub wires : (m : Message) (r : HttpReply) (text : List ℕ) → Answers (acts_at rules catalogue moment readings) (asks_at catalogue moment readings) old new (request_of m) m r → text ≡ reply_bytes r
-      → (word : Word) × IsActing word × (catalogue new ≡ wire_after rules (catalogue old) word m) × (text ≡ wire_reply rules (catalogue old) word m)
-  wires m r text h is = answers_wire (acts_at rules catalogue moment readings) (asks_at catalogue moment readings) rules catalogue old new acted_at asked_at m r text h is
-
-  -- what isn't a command changes nothing, and the reply to a command is brief
-  pub unless_brief : (asked : Result Request Refusal) (m : Message) (r : HttpReply) → Answers (acts_at rules catalogue moment readings) (asks_at catalogue moment readings) old new asked m r
-      → IsBriefBy asked r → (IsBrief r → ⊥) → catalogue new ≡ catalogue old
-  unless_brief (Ok (Mutate provider x)) m r h brief long = absurd (long brief)
-  unless_brief (Ok (ShelfPut name text)) m r h brief long = absurd (long brief)
-  unless_brief (Ok (ShelfDrop name)) m r h brief long = absurd (long brief)
-  unless_brief (Ok (Refresh reference)) m r h brief long = absurd (long brief)
-  unless_brief (Ok (Forget number)) m r h brief long = absurd (long brief)
-  unless_brief (Ok Settle) m r h brief long = absurd (long brief)
-  unless_brief (Ok (Ask q)) m r h brief long = (asked_at q h.0 h.1 h.2).0
-  unless_brief (Err refusal) m r h brief long = ap catalogue h.0
+  -- a service with such a desk at the moment 0 answers by words
+  pub is_worded : {S : Type 0} (desk : S → A)
+      → IsWorded (λ old m new text. AnswersBytes acts_at asks_at tells_at (desk old) m (desk new) text) (λ old m new. Lacks acts_at asks_at tells_at (desk old) (desk new) (request_of m))
+      (λ s. IsAtZero (desk s)) (λ s. wired (desk s)) (wire_after rules) (wire_reply rules)
+  is_worded desk = record {
+    answered = λ old new m text zero h. answered_at (desk old) (desk new) zero m text h;
+    lacked = λ old new m zero h. wants_at (desk old) (desk new) zero m h;
+  }

@@ -1,4 +1,4 @@
--- What a request does to a catalogue, and how what a desk says becomes an answer.
+-- How what a desk says becomes an answer.
 use Rattle.std.specs.Prelude.{ℕ, Bool, true, false, List, Result, Ok, Err}
 use Rattle.cat_core.specs.declared.fault.CoreFault.{CoreFault}
 use Rattle.cat_core.specs.declared.fault.CoreFault.TheVariants as core
@@ -6,6 +6,13 @@ use Rattle.cat_desk.specs.declared.command.Asked.{Asked}
 use Rattle.cat_desk.specs.declared.command.Asked.TheVariants as asked
 use Rattle.cat_desk.specs.declared.command.Reply.{Reply}
 use Rattle.cat_desk.specs.declared.command.Reply.TheVariants as replies
+use Rattle.cat_tree.specs.Text.{text_of}
+use Rattle.cat_feed.specs.declared.change.Changes.{Changes}
+use Rattle.cat_feed.specs.declared.fault.FeedFault.{FeedFault}
+use Rattle.cat_feed.specs.declared.fault.FeedFault.TheVariants as feed
+use Rattle.cat_changes.specs.Written.{changes_data}
+use Rattle.cat_fed.specs.declared.desk.FeedAnswer.{FeedAnswer}
+use Rattle.cat_fed.specs.declared.desk.FeedAnswer.TheVariants as told
 use Rattle.cat_replies.specs.Asks.{AskFault}
 use Rattle.cat_replies.specs.Asks.AskFault.{not_found, no_facet}
 use Rattle.cat_api.specs.declared.kind.Kind.{Kind}
@@ -13,7 +20,7 @@ use Rattle.cat_api.specs.declared.kind.Kind.TheVariants.{Mutation, Shelving, Ref
 use Rattle.cat_requests.specs.declared.answer.Answer.{Answer}
 use Rattle.cat_requests.specs.declared.answer.Answer.TheVariants.{Shown, Mutated, Done, Refreshed, Settled, Refused}
 use Rattle.cat_requests.specs.declared.refusal.Refusal.{Refusal}
-use Rattle.cat_requests.specs.declared.refusal.Refusal.TheVariants.{Entity, Shelf, Facet, OldSerial, TooLarge, Spent, CutByCounter, CutByMemory, Reply as Strange, NoMemory}
+use Rattle.cat_requests.specs.declared.refusal.Refusal.TheVariants.{Entity, Shelf, Facet, Gone, Ahead, OldSerial, TooLarge, Spent, CutByCounter, CutByMemory, SpentFeed, Reply as Strange, NoMemory}
 
 -- what isn't there is an entity, or a text on the shelf
 abbrev pub missing : Kind → Refusal
@@ -71,6 +78,22 @@ asked_answer asked.Written text = Shown text
 asked_answer asked.NotFound text = Refused Entity
 asked_answer asked.NoFacet text = Refused Facet
 asked_answer asked.NoMemory text = Refused NoMemory
+
+-- the answer to an ask for changes
+abbrev pub changes_answer : Result Changes FeedFault → Answer
+changes_answer (Ok changes) = Shown (text_of (changes_data changes))
+changes_answer (Err (feed.Gone place)) = Refused (Gone place)
+changes_answer (Err (feed.Ahead place)) = Refused (Ahead place)
+changes_answer (Err feed.Spent) = Refused SpentFeed
+changes_answer (Err feed.NoMemory) = Refused NoMemory
+
+-- the same by what the desk says, where it appended this text
+abbrev pub told_answer : FeedAnswer → List ℕ → Answer
+told_answer told.Written text = Shown text
+told_answer (told.Gone place) text = Refused (Gone place)
+told_answer (told.Ahead place) text = Refused (Ahead place)
+told_answer told.Spent text = Refused SpentFeed
+told_answer told.NoMemory text = Refused NoMemory
 
 -- the fault is want of memory
 abbrev pub is_want : CoreFault → Bool

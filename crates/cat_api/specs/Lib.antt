@@ -1,4 +1,5 @@
 pub mod Deeds
+pub mod Operations
 pub mod Wire
 pub mod Answering
 pub mod Room

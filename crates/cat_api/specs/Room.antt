@@ -5,13 +5,16 @@ use Rattle.cat_model.specs.declared.types.Counts.{Counts}
 use Rattle.cat_requests.specs.declared.answer.Answer.{Answer}
 use Rattle.cat_requests.specs.declared.answer.Answer.TheVariants.{Settled, Refused}
 use Rattle.cat_requests.specs.declared.refusal.Refusal.{Refusal}
-use Rattle.cat_requests.specs.declared.refusal.Refusal.TheVariants.{Reference, OldSerial, TooLarge, CutByCounter, CutByMemory}
+use Rattle.cat_requests.specs.declared.refusal.Refusal.TheVariants.{Reference, Gone, Ahead, OldSerial, TooLarge, CutByCounter, CutByMemory}
 use Rattle.cat_requests.specs.declared.request.Request.{Request}
-use Rattle.cat_requests.specs.declared.request.Request.TheVariants.{Ask}
+use Rattle.cat_api.specs.Operations.{Operation, operation}
+use Rattle.cat_api.specs.Operations.Operation.{Act, Ask, Tell}
 
 -- the numbers of a refusal are of 64 bits
 abbrev pub HasNumbers : Refusal → Type 0
 HasNumbers (Reference i) = i < 2 ^ 64
+HasNumbers (Gone place) = (place.epoch < 2 ^ 64) × (place.number < 2 ^ 64)
+HasNumbers (Ahead place) = (place.epoch < 2 ^ 64) × (place.number < 2 ^ 64)
 HasNumbers (OldSerial last) = last < 2 ^ 64
 HasNumbers (TooLarge sum) = sum < 2 ^ 64
 HasNumbers (CutByCounter events counter) = events < 2 ^ 64
@@ -32,11 +35,12 @@ AreSmall _ = ⊤
 abbrev pub IsBrief : HttpReply → Type 0
 IsBrief r = (length r.body ≤ 160) × (r.allow ≡ [])
 
--- the reply to a command is brief
-abbrev pub IsBriefTo : Request → HttpReply → Type 0
-IsBriefTo (Ask q) r = ⊤
-IsBriefTo _ r = IsBrief r
+-- the reply to a deed is brief
+abbrev pub IsBriefTo : Operation → HttpReply → Type 0
+IsBriefTo (Act d k) r = IsBrief r
+IsBriefTo (Ask question) r = ⊤
+IsBriefTo (Tell since) r = ⊤
 
 abbrev pub IsBriefBy : Result Request Refusal → HttpReply → Type 0
-IsBriefBy (Ok request) r = IsBriefTo request r
+IsBriefBy (Ok request) r = IsBriefTo (operation request) r
 IsBriefBy (Err refusal) r = ⊤

@@ -1,17 +1,21 @@
 //! The answer to one message.
 ghost use Rattle.std.specs.Prelude.{◌≡◌, ◌≢◌, IfOk, OnOk, OnErr, IsErr, IsTrue};
+ghost use Rattle.cat_api.specs.Answering.{ActsBy, Answers, AsksBy, Carries, Lacks, LacksIn, TellsBy};
 ghost use Rattle.cat_api.specs.Deeds as deeds;
-ghost use Rattle.cat_api.specs.Room.{IsBrief, IsBriefTo, IsBriefBy};
-ghost use Rattle.cat_http.specs.Reply.{is_named};
+ghost use Rattle.cat_api.specs.Operations.{operation};
+ghost use Rattle.cat_api.specs.Operations.Operation.{Act, Ask as AskOf, Tell};
+ghost use Rattle.cat_api.specs.Room.{IsBrief, IsBriefBy, IsBriefTo};
 ghost use Rattle.cat_desk.specs.Deed.{deed};
-ghost use Rattle.cat_api.specs.Answering.{ActsBy, AsksBy, Carries, Answers, Lacks};
+ghost use Rattle.cat_http.specs.Reply.{is_named};
 ghost use Rattle.cat_requests.specs.Answers as spec;
 ghost use Rattle.cat_requests.specs.Requests.{request_of as asked_for};
 
 use crate::kind::{Kind, act_answer, lacks_memory};
 use crate::room::numbers_fit;
+use crate::task::{Task, task_of};
 use cat_desk::command::{Asked, Command};
-use cat_desk::desk::Desk;
+use cat_fed::desk::{FeedAnswer, FeedDesk};
+use cat_feed::change::Since;
 use cat_http::body::Bytes;
 use cat_http::message::Message;
 use cat_http::reply::HttpReply;
@@ -22,7 +26,7 @@ use cat_requests::request::{Request, request_of};
 use std::alloc::{AllocError, Global};
 
 // Gives a command to the desk. The room for the reply is taken first.
-fn act<F: Drop, S: Drop, D: Desk<F, S>>(
+fn act<F: Drop, S: Drop, D: FeedDesk<F, S>>(
     alloc: Global,
     desk: &mut D,
     command: Command<F, S>,
@@ -31,7 +35,7 @@ fn act<F: Drop, S: Drop, D: Desk<F, S>>(
 ) -> Result<HttpReply, AllocError>
     ensures brief { IfOk result IsBrief }
     ensures ok { IfOk result (λ r. ActsBy D.acts desk.old desk.new (deed D.order D.stitch_order command) kind message.now r) }
-    ensures err { OnErr result (Lacks D.acts D.asks desk.old desk.new) }
+    ensures err { OnErr result (LacksIn D.acts D.asks D.tells desk.old desk.new (Act (deed D.order D.stitch_order command) kind)) }
 {
     let body = Vec::with_capacity(alloc, ROOM)?;
     let reply = desk.act(alloc, command);
@@ -57,14 +61,14 @@ fn asked_answer(asked: Asked, text: Vec<u8>) -> Result<Answer, AllocError>
 }
 
 // Asks the desk.
-fn ask<F: Drop, S: Drop, D: Desk<F, S>>(
+fn ask<F: Drop, S: Drop, D: FeedDesk<F, S>>(
     alloc: Global,
     desk: &mut D,
     ask: &Ask,
     message: &Message,
 ) -> Result<HttpReply, AllocError>
     ensures ok { IfOk result (λ r. AsksBy D.asks desk.old desk.new ask.now message.now r) }
-    ensures err { OnErr result (Lacks D.acts D.asks desk.old desk.new) }
+    ensures err { OnErr result (LacksIn D.acts D.asks D.tells desk.old desk.new (AskOf ask.now)) }
 {
     let mut text = Vec::new(alloc);
     let asked = desk.ask(alloc, ask, &mut text);
@@ -72,57 +76,51 @@ fn ask<F: Drop, S: Drop, D: Desk<F, S>>(
     reply_to(alloc, Vec::new(alloc), message, answer)
 }
 
+// The answer to an ask for changes, by what the desk says and what it appended; none for want of memory.
+fn told_answer(told: FeedAnswer, text: Vec<u8>) -> Result<Answer, AllocError>
+    ensures ok { IfOk result (λ a. a ≡ deeds.told_answer told text.items) }
+    ensures some { OnOk result (told ≢ FeedAnswer.NoMemory) }
+{
+    match told {
+        FeedAnswer::Written => Ok(Answer::Shown(Bytes::from_vec(text))),
+        FeedAnswer::Gone(place) => Ok(Answer::Refused(Refusal::Gone(place))),
+        FeedAnswer::Ahead(place) => Ok(Answer::Refused(Refusal::Ahead(place))),
+        FeedAnswer::Spent => Ok(Answer::Refused(Refusal::SpentFeed)),
+        FeedAnswer::NoMemory => Err(AllocError),
+    }
+}
+
+// Asks the desk for changes.
+fn tell<F: Drop, S: Drop, D: FeedDesk<F, S>>(
+    alloc: Global,
+    desk: &mut D,
+    since: Option<Since>,
+    message: &Message,
+) -> Result<HttpReply, AllocError>
+    ensures ok { IfOk result (λ r. TellsBy D.tells desk.old desk.new since message.now r) }
+    ensures err { OnErr result (LacksIn D.acts D.asks D.tells desk.old desk.new (Tell since)) }
+{
+    let mut text = Vec::new(alloc);
+    let told = desk.changes(alloc, since, &mut text);
+    let answer = told_answer(told, text)?;
+    reply_to(alloc, Vec::new(alloc), message, answer)
+}
+
 // Carries out a request.
-fn carry_out<F: Drop, S: Drop, D: Desk<F, S>>(
+fn carry_out<F: Drop, S: Drop, D: FeedDesk<F, S>>(
     alloc: Global,
     desk: &mut D,
     request: Request,
     message: &Message,
 ) -> Result<HttpReply, AllocError>
-    ensures brief { IfOk result (IsBriefTo request) }
-    ensures ok { IfOk result (λ r. Carries D.acts D.asks desk.old desk.new request message.now r) }
-    ensures err { OnErr result (Lacks D.acts D.asks desk.old desk.new) }
+    ensures brief { IfOk result (IsBriefTo (operation request)) }
+    ensures ok { IfOk result (λ r. Carries D.acts D.asks D.tells desk.old desk.new (operation request) message.now r) }
+    ensures err { OnErr result (LacksIn D.acts D.asks D.tells desk.old desk.new (operation request)) }
 {
-    match request {
-        Request::Mutate(provider, mutation) => act(
-            alloc,
-            desk,
-            Command::Mutate(provider, mutation),
-            Kind::Mutation,
-            message,
-        ),
-        Request::ShelfPut(name, text) => act(
-            alloc,
-            desk,
-            Command::ShelfPut(name, text),
-            Kind::Shelving,
-            message,
-        ),
-        Request::ShelfDrop(name) => {
-            act(
-                alloc,
-                desk,
-                Command::ShelfDrop(name),
-                Kind::Shelving,
-                message,
-            )
-        }
-        Request::Refresh(reference) => act(
-            alloc,
-            desk,
-            Command::Refresh(reference),
-            Kind::Refreshing,
-            message,
-        ),
-        Request::Forget(number) => act(
-            alloc,
-            desk,
-            Command::ForgetNumber(number),
-            Kind::Forgetting,
-            message,
-        ),
-        Request::Settle => act(alloc, desk, Command::Settle, Kind::Settling, message),
-        Request::Ask(question) => ask(alloc, desk, &question, message),
+    match task_of(request) {
+        Task::Act(command, kind) => act(alloc, desk, command, kind, message),
+        Task::Ask(question) => ask(alloc, desk, &question, message),
+        Task::Tell(since) => tell(alloc, desk, since, message),
     }
 }
 
@@ -139,16 +137,17 @@ fn refused(alloc: Global, message: &Message, refusal: Refusal) -> Result<HttpRep
 
 /// Answers a message: carries out at the desk what it asks for, or says why it is refused.
 ///
-/// `Err` is want of memory, and the desk has done nothing: the room for the reply to a command is taken before the desk acts.
-pub fn answer<F: Drop, S: Drop, D: Desk<F, S>>(
+/// `Err` is want of memory, and no command was done: the room for the reply to a command is taken before the desk acts. An ask for
+/// changes may have been answered by the desk, whose feed then took the documents in.
+pub fn answer<F: Drop, S: Drop, D: FeedDesk<F, S>>(
     alloc: Global,
     desk: &mut D,
     message: &Message,
 ) -> Result<HttpReply, AllocError>
-    ensures ok { IfOk result (λ r. Answers D.acts D.asks desk.old desk.new (asked_for message.now) message.now r) }
+    ensures ok { IfOk result (λ r. Answers D.acts D.asks D.tells desk.old desk.new (asked_for message.now) message.now r) }
     ensures named { IfOk result (λ r. IsTrue (is_named r.status)) }
     ensures brief { IfOk result (IsBriefBy (asked_for message.now)) }
-    ensures err { OnErr result (Lacks D.acts D.asks desk.old desk.new) }
+    ensures err { OnErr result (Lacks D.acts D.asks D.tells desk.old desk.new (asked_for message.now)) }
 {
     match request_of(alloc, message) {
         Ok(request) => carry_out(alloc, desk, request, message),

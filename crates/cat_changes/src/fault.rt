@@ -4,6 +4,8 @@ ghost use Rattle.cat_changes.specs.Read.{field_text, json_fault};
 
 use cat_tree::read::TreeFault;
 use std::alloc::{AllocError, AllocFailed};
+use std::fmt;
+use thiserror::Error;
 
 /// A field of the text of changes.
 #[derive(Clone, Copy, Debug, Drop, PartialEq, Eq)]
@@ -26,14 +28,23 @@ impl Field {
     }
 }
 
+impl fmt::Display for Field {
+    fn fmt<W: fmt::Write>(&self, f: &mut fmt::Formatter<W>) -> fmt::Result {
+        write!(f, "{}", self.text())
+    }
+}
+
 /// Why bytes are no changes: the first of these that holds, in this order.
-#[derive(Clone, Copy, Debug, Drop, PartialEq, Eq)]
+#[derive(Clone, Copy, Debug, Drop, PartialEq, Eq, Error)]
 pub enum ChangesFault {
     /// The bytes are no tree.
+    #[error("{0}")]
     Json(TreeFault),
     /// The first of `changes`, `from` and `to` that is missing or of another form.
+    #[error("the field {0} is missing or of another form")]
     Shape(Field),
     /// There is no memory for the changes.
+    #[error("out of memory")]
     NoMemory,
 }
 

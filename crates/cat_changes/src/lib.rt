@@ -10,6 +10,4 @@
 pub mod fault;
 pub mod place;
 pub mod read;
-#[cfg(test)]
-mod tests;
 pub mod write;

@@ -1,12 +1,15 @@
 //! Why there is no plan.
 use std::alloc::AllocError;
+use thiserror::Error;
 
 /// Why there is no plan.
-#[derive(Clone, Copy, Debug, Drop, PartialEq, Eq)]
+#[derive(Clone, Copy, Debug, Drop, PartialEq, Eq, Error)]
 pub enum PlanFault {
     /// A row would be numbered 2^59 or more.
+    #[error("no arrival number is left")]
     Spent,
     /// Want of memory.
+    #[error("out of memory")]
     NoMemory,
 }
 

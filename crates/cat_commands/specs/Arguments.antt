@@ -11,6 +11,7 @@ abbrev pub parted_by : Option (List ℕ) × List ℕ → List ℕ × Option (Lis
 parted_by (None, s) = (s, None)
 parted_by (Some word, rest) = (word, Some rest)
 
+-- what stands before the first space of a line, or all of it, and what stands after that
 abbrev pub parted : List ℕ → List ℕ × Option (List ℕ)
 parted s = parted_by (cut 32 s)
 
@@ -19,6 +20,7 @@ abbrev pub two_by : Option (List ℕ) × List ℕ → Option (List ℕ × List �
 two_by (None, s) = None
 two_by (Some first, rest) = Some (first, rest)
 
+-- the two parts of a text that its first space parts
 abbrev pub two : List ℕ → Option (List ℕ × List ℕ)
 two s = two_by (cut 32 s)
 
@@ -34,6 +36,7 @@ is_number s = (nat_lt 0 (length s) && nat_le (length s) 20) && list_all is_ascii
 abbrev pub number : List ℕ → Option ℕ
 number s = if is_number s && nat_lt (digits_value 10 s) (2 ^ 64) then Some (digits_value 10 s) else None
 
+-- a number as a moment in milliseconds, where it is below 2^53
 abbrev pub as_moment : Option ℕ → Option ℕ
 as_moment None = None
 as_moment (Some n) = if nat_lt n (2 ^ 53) then Some n else None

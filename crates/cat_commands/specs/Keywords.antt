@@ -28,6 +28,7 @@ keyword_text Conflicts = codes "conflicts"
 keyword_text Failed = codes "failed"
 keyword_text Orphans = codes "orphans"
 
+-- all command words
 abbrev pub all_keywords : List Keyword
 all_keywords =
     Full ∷ (Delta ∷ (Put ∷ (Drop ∷ (Refresh ∷ (Forget ∷ (Clock ∷ (Take ∷ (Finish ∷ (Stitch ∷ (Place ∷ (Settle ∷ (Quiet ∷ (State ∷ (Get ∷ (Listed ∷ (Page ∷ (Facets ∷ (Many ∷ (Conflicts ∷ (Failed ∷ (Orphans ∷ [])))))))))))))))))))))

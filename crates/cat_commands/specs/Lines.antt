@@ -33,6 +33,7 @@ abbrev pub on : {A B : Type 0} → (A → B) → Result A LineFault → Result B
 on say (Ok x) = Ok (say x)
 on say (Err fault) = Err fault
 
+-- a text that names no entity is a malformed argument
 abbrev pub as_argument : Result Text RefFault → Result Text LineFault
 as_argument (Ok r) = Ok r
 as_argument (Err fault) = Err BadArguments
@@ -41,12 +42,15 @@ as_argument (Err fault) = Err BadArguments
 abbrev pub reference : Text → Result Text LineFault
 reference text = as_argument (parsed text None (codes "default"))
 
+-- the number that an argument is
 abbrev pub number_in : Text → Result ℕ LineFault
 number_in text = ok_or (number text) BadArguments
 
+-- the moment that an argument is
 abbrev pub moment_in : Text → Result ℕ LineFault
 moment_in text = ok_or (moment text) BadArguments
 
+-- the refusal of a query is that of its line
 abbrev pub as_query : Result Query QueryFault → Result Query LineFault
 as_query (Ok q) = Ok q
 as_query (Err fault) = Err (query_fault fault)
@@ -57,6 +61,7 @@ query text = as_query (query_of text)
 
 -- ---- commands
 
+-- a mutation of this provider, or why the body is none
 abbrev pub mutated : Text → Result Mutation InputFault → Result Line LineFault
 mutated provider (Ok m) = Ok (line.Mutate provider m)
 mutated provider (Err fault) = Err (input_fault fault)
@@ -72,6 +77,7 @@ abbrev pub put_by : Option (Text × Text) → Result Line LineFault
 put_by None = Err BadArguments
 put_by (Some (name, text)) = if is_shelf_name name then Ok (line.ShelfPut name text) else Err BadArguments
 
+-- a shelf name whose text is to go
 abbrev pub drop_by : Text → Result Line LineFault
 drop_by name = if is_shelf_name name then Ok (line.ShelfDrop name) else Err BadArguments
 
@@ -111,6 +117,7 @@ with_text keyword.Stitch text = on line.Stitch (number_in text)
 with_text keyword.Place text = on line.Place (number_in text)
 with_text w text = on line.Ask (question w text)
 
+-- what a keyword says with a text, where that is UTF-8
 abbrev pub with_utf8 : Keyword → Option Text → Result Line LineFault
 with_utf8 w None = Err BadArguments
 with_utf8 w (Some text) = with_text w text
@@ -120,6 +127,7 @@ abbrev pub with_rest : Keyword → Option (List ℕ) → Result Line LineFault
 with_rest w None = alone w
 with_rest w (Some rest) = with_utf8 w (utf8_in rest)
 
+-- what the rest of a line says after its keyword, where there is one
 abbrev pub by_keyword : Option Keyword → Option (List ℕ) → Result Line LineFault
 by_keyword None rest = Err BadWord
 by_keyword (Some w) rest = with_rest w rest

@@ -5,23 +5,31 @@ ghost use Rattle.cat_commands.specs.Faults.{input_fault, query_fault};
 use cat_inputs::fault::InputFault;
 use cat_query::fault::QueryFault;
 use std::alloc::{AllocError, AllocFailed};
+use thiserror::Error;
 
 /// Why a line is no command: the first of these that holds, in this order.
-#[derive(Clone, Copy, Debug, Drop, PartialEq, Eq)]
+#[derive(Clone, Copy, Debug, Drop, PartialEq, Eq, Error)]
 pub enum LineFault {
     /// The line has over 8,388,608 bytes.
+    #[error("the line has over 8,388,608 bytes")]
     LongLine,
     /// No command has this word.
+    #[error("no command has this word")]
     BadWord,
     /// The rest isn't UTF-8, or the arguments are of another number or form.
+    #[error("bad arguments")]
     BadArguments,
     /// The body is no mutation, or no list of texts.
+    #[error("{0}")]
     Input(InputFault),
     /// This text of a list, counted from 0, names no entity.
+    #[error("text {0} names no entity")]
     Reference(usize),
     /// The text is no query.
+    #[error("{0}")]
     Query(QueryFault),
     /// There is no memory for the answer.
+    #[error("out of memory")]
     NoMemory,
 }
 

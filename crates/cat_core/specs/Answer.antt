@@ -88,6 +88,7 @@ pub record IsCutSettle (rules : Rules) (s : Settings) (now : ℕ) (m n : State) 
   pub cause : IsCause cut.fault (try_settle rules s now None m).stop
   pub whole : IsWhole cut.fault (try_settle rules s now None m) n cut.events
 
+-- what a settle that ended so answers: its counts, or the refusal of its next event
 abbrev pub stop_answer : Progress → Option Stop → Result Counts Cut
 stop_answer p None = Ok (counts p)
 stop_answer p (Some (StopRefused fault)) = Err (record { events = p.events; fault = core_fault fault })

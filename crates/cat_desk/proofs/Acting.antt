@@ -75,6 +75,7 @@ module _ (rules : Rules) (now : ℕ) (old new : Ledger) (same : new.settings ≡
     settings = same;
     answer = sym (ap (λ r. or_refused r reply) h) ∙ sym is.tells;
     spare = λ none. refl;
+    exact = tt;
   }
 
   replied : {A : Type 0} (says : A → Reply) (x : A) (d : Deed) (e : Event) → Is d e (says x) → (came : Result A CoreFault)
@@ -86,12 +87,13 @@ module _ (rules : Rules) (now : ℕ) (old new : Ledger) (same : new.settings ≡
     settings = same;
     answer = ap says h.1 ∙ (sym (ap (λ r. or_refused r (says x)) h.0) ∙ sym is.tells);
     spare = λ none. refl;
+    exact = tt;
   }
   replied says x d e is (Err (core.OldSerial n)) state h needs = refused d e (says x) is (model.OldSerial n) state h
   replied says x d e is (Err core.NotFound) state h needs = refused d e (says x) is model.NotFound state h
   replied says x d e is (Err (core.TooLarge n)) state h needs = refused d e (says x) is (model.TooLarge n) state h
   replied says x d e is (Err (core.Spent c)) state h needs = refused d e (says x) is (model.Spent c) state h
-  replied says x d e is (Err core.NoMemory) state h needs = record { word = memory; state = state; settings = same; answer = refl; spare = λ none. absurd (needs tt none) }
+  replied says x d e is (Err core.NoMemory) state h needs = record { word = memory; state = state; settings = same; answer = refl; spare = λ none. absurd (needs tt none); exact = tt }
 
   -- what a call answered to a deed that is an event
   pub acts : {A : Type 0} (says : A → Reply) (x : A) (d' d : Deed) (e : Event) → d' ≡ d → Is d e (says x) → (came : Result A CoreFault)
@@ -109,6 +111,7 @@ module _ (rules : Rules) (now : ℕ) (old new : Ledger) (same : new.settings ≡
     settings = same;
     answer = λ i. replies.Cut (record { events = sym h.events i; fault = lack i });
     spare = λ none. absurd none;
+    exact = (refl, h.events);
   }
 
   spent : (c : Cut) (f : Fault) → ((try_settle rules old.settings now None old.state).state ≡ new.state) × ((try_settle rules old.settings now None old.state).events ≡ c.events)
@@ -119,6 +122,7 @@ module _ (rules : Rules) (now : ℕ) (old new : Ledger) (same : new.settings ≡
     settings = same;
     answer = (λ i. replies.Cut (record { events = sym whole.1 i; fault = cause i })) ∙ sym (ap (λ s. settled_as (stop_answer (try_settle rules old.settings now None old.state) s)) stop);
     spare = λ none. refl;
+    exact = tt;
   }
 
   cut_at : (events : ℕ) (fault : CoreFault) → IsCutSettle rules old.settings now old.state new.state (record { events = events; fault = fault }) → Acts rules now Settle old new (replies.Cut (record { events = events; fault = fault }))
@@ -137,6 +141,7 @@ module _ (rules : Rules) (now : ℕ) (old new : Ledger) (same : new.settings ≡
     settings = same;
     answer = ap replies.Settled count ∙ sym (ap (λ s. settled_as (stop_answer (try_settle rules old.settings now None old.state) s)) ended);
     spare = λ none. refl;
+    exact = tt;
   }
   settled_at (Err c) state count ended part = cut_at c.events c.fault part
 

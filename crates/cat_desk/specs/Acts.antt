@@ -115,6 +115,12 @@ NeedsNone Settle m = ⊥
 
 -- ---- what a catalogue does
 
+-- Where a word cuts a deed short, the deed is a settle that has just as many events.
+abbrev pub IsExact : Rules → Settings → ℕ → State → Deed → Word → Type 0
+IsExact rules s now m d plain = ⊤
+IsExact rules s now m d memory = ⊤
+IsExact rules s now m d (cut n) = (d ≡ Settle) × ((try_settle rules s now (Some n) m).events ≡ n)
+
 -- A deed was done to a catalogue at this moment, or lacked memory where it takes any, and this is the reply.
 pub record Acts (rules : Rules) (now : ℕ) (d : Deed) (old new : Ledger) (reply : Reply) : Type 0 where
   pub word : Word
@@ -122,6 +128,7 @@ pub record Acts (rules : Rules) (now : ℕ) (d : Deed) (old new : Ledger) (reply
   pub settings : new.settings ≡ old.settings
   pub answer : reply ≡ deed_reply rules old.settings now word d old.state
   pub spare : NeedsNone d old.state → word ≡ plain
+  pub exact : IsExact rules old.settings now old.state d word
 
 -- The same at the moment that a clock gave last, which was read once for it.
 pub record ActsOnce (rules : Rules) (now readings readings' : ℕ) (d : Deed) (old new : Ledger) (reply : Reply) : Type 0 where

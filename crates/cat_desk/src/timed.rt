@@ -37,6 +37,21 @@ impl<L: Layers, C: Clock> Timed<L, C> {
     {
         &self.catalogue
     }
+
+    /// Does what a command says, which stays with the caller, and answers it with the moment at which it came.
+    pub fn act_at(
+        &mut self,
+        alloc: Global,
+        command: &Command<Done<'_, L>, Stitched<'_, L>>,
+    ) -> (u64, Reply)
+        ensures moment { result.0 ≡ C.moment self.new.clock }
+        ensures acts { ActsOnce L.rules (C.moment self.new.clock) (C.readings self.old.clock) (C.readings self.new.clock) (deed_of command.now) self.old.catalogue self.new.catalogue result.1 }
+        ensures ticks { C.ticks self.old.clock self.new.clock }
+    {
+        let now = self.clock.now();
+        let reply = act(alloc, &mut self.catalogue, command, now);
+        (now, reply)
+    }
 }
 
 impl<L: Layers> Timed<L, FixedClock> {
@@ -70,8 +85,7 @@ impl<'a, L: Layers, C: Clock> Desk<Done<'a, L>, Stitched<'a, L>> for Timed<L, C>
     fn act(&mut self, alloc: Global, command: Command<Done<'a, L>, Stitched<'a, L>>) -> Reply
         ensures acts { ActsOnce L.rules (C.moment self.new.clock) (C.readings self.old.clock) (C.readings self.new.clock) (deed_of command.entry) self.old.catalogue self.new.catalogue result × C.ticks self.old.clock self.new.clock }
     {
-        let now = self.clock.now();
-        act(alloc, &mut self.catalogue, command, now)
+        self.act_at(alloc, &command).1
     }
 
     fn ask(&mut self, alloc: Global, ask: &Ask, out: &mut Vec<u8>) -> Asked
@@ -88,25 +102,25 @@ impl<'a, L: Layers, C: Clock> Desk<Done<'a, L>, Stitched<'a, L>> for Timed<L, C>
 fn act<L: Layers>(
     alloc: Global,
     catalogue: &mut Catalogue<L>,
-    command: Command<Done<'_, L>, Stitched<'_, L>>,
+    command: &Command<Done<'_, L>, Stitched<'_, L>>,
     now: u64,
 ) -> Reply
     requires { now < 2 ^ 53 }
-    ensures { Acts L.rules now (deed_of command.entry) catalogue.old catalogue.new result }
+    ensures { Acts L.rules now (deed_of command.now) catalogue.old catalogue.new result }
 {
     match command {
         Command::Mutate(provider, mutation) => {
-            mutated(catalogue.mutate(alloc, &provider, &mutation))
+            mutated(catalogue.mutate(alloc, provider, mutation))
         }
-        Command::ShelfPut(name, text) => changed(catalogue.shelf_put(alloc, &name, &text)),
-        Command::ShelfDrop(name) => changed(catalogue.shelf_drop(alloc, &name)),
-        Command::Refresh(reference) => changed(catalogue.refresh(alloc, &reference)),
-        Command::Forget(reference) => changed(catalogue.forget(alloc, &reference)),
-        Command::ForgetNumber(number) => changed(catalogue.forget_number(alloc, number)),
+        Command::ShelfPut(name, text) => changed(catalogue.shelf_put(alloc, name, text)),
+        Command::ShelfDrop(name) => changed(catalogue.shelf_drop(alloc, name)),
+        Command::Refresh(reference) => changed(catalogue.refresh(alloc, reference)),
+        Command::Forget(reference) => changed(catalogue.forget(alloc, reference)),
+        Command::ForgetNumber(number) => changed(catalogue.forget_number(alloc, *number)),
         Command::Take => taken(catalogue.take(alloc, now)),
-        Command::Finish(done) => finished(catalogue.finish(alloc, &done, now)),
-        Command::TakeStitch(after) => stitch_taken(catalogue.take_stitch(alloc, after)),
-        Command::PutStitch(stitched) => placed(catalogue.put_stitch(alloc, &stitched)),
+        Command::Finish(done) => finished(catalogue.finish(alloc, done, now)),
+        Command::TakeStitch(after) => stitch_taken(catalogue.take_stitch(alloc, *after)),
+        Command::PutStitch(stitched) => placed(catalogue.put_stitch(alloc, stitched)),
         Command::Settle => settled(catalogue.settle(alloc, now)),
     }
 }

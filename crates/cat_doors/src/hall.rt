@@ -27,13 +27,6 @@ pub trait Named {
     ghost faults: { ℕ };
 }
 
-/// Doors that are lent.
-#[derive(Drop)]
-pub struct Lent<'a, D: Doors> {
-    /// The doors.
-    pub doors: &'a mut D,
-}
-
 /// Doors that are lent, and why they let in no more, once they have said it. Its type keeps which doors they are, that their count of
 /// faults hasn't fallen, and that what they said has its cause.
 #[derive(Drop)]

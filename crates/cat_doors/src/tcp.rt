@@ -64,8 +64,9 @@ impl<'a, R: Net<Listener = TcpListener, Stream = TcpStream>> TcpDoors<'a, R> {
         conn_of(next_stream(self.listener.as_ref()?)?)
     }
 
-    /// The port on which connections may come, if the doors listen and the system tells it.
-    pub fn port(&self) -> Option<u16> {
+    // The port on which connections may come, if the doors listen and the system tells it.
+    #[cfg(test)]
+    pub(crate) fn port(&self) -> Option<u16> {
         let address = self.listener.as_ref()?.local_addr().ok()?;
         Some(address.port())
     }

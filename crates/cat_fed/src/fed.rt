@@ -48,6 +48,20 @@ impl<L: Layers, C: Clock> Fed<L, C> {
     {
         &self.timed
     }
+
+    /// Does what a command says, which stays with the caller, and answers it with the moment at which it came.
+    pub fn act_at(
+        &mut self,
+        alloc: Global,
+        command: &Command<Done<'_, L>, Stitched<'_, L>>,
+    ) -> (u64, Reply)
+        ensures moment { result.0 ≡ C.moment self.new.timed.clock }
+        ensures acts { ActsOnce L.rules (C.moment self.new.timed.clock) (C.readings self.old.timed.clock) (C.readings self.new.timed.clock) (deed_of command.now) self.old.timed.catalogue self.new.timed.catalogue result.1 }
+        ensures ticks { C.ticks self.old.timed.clock self.new.timed.clock }
+        ensures feed { self.new.feed ≡ self.old.feed }
+    {
+        self.timed.act_at(alloc, command)
+    }
 }
 
 impl<'a, L: Layers, C: Clock> Desk<Done<'a, L>, Stitched<'a, L>> for Fed<L, C> {

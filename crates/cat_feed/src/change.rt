@@ -5,6 +5,7 @@ use cat_ref::reference::Ref;
 use cat_table::listing::{Copied, Listing};
 use cat_types::node::Node;
 use std::alloc::{AllocError, Global};
+use std::fmt;
 
 /// A change under a reference: the document that is there now, or that none is there any more. A feed numbers its changes in the
 /// order in which it found them.
@@ -23,6 +24,12 @@ pub type ChangeList = Listing<Change>;
 pub struct Since {
     pub epoch: u64,
     pub number: u64,
+}
+
+impl fmt::Display for Since {
+    fn fmt<W: fmt::Write>(&self, f: &mut fmt::Formatter<W>) -> fmt::Result {
+        write!(f, "{}.{}", self.epoch, self.number)
+    }
 }
 
 /// What leads from one place to another: the changes between them; or, from nowhere, a change for each document.

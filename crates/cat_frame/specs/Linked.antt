@@ -67,6 +67,7 @@ AreRecorded m = (r : Ref) → is_some (get m.records r) ≡ held m.holders r
 
 -- ---- the parts of a document, with the relations that the links give
 
+-- the parts of an orphan, if it is one
 abbrev pub linked_orphan : Rules → Emitted → Ref → Option Orphan → Option Parts
 linked_orphan rules links r None = None
 linked_orphan rules links r (Some x) =
@@ -78,6 +79,7 @@ linked_orphan rules links r (Some x) =
       issues = [];
     })
 
+-- the parts of a record, if it has a kept output
 abbrev pub linked_record : Emitted → Ref → Record → Option Output → Option Parts
 linked_record links r x None = None
 linked_record links r x (Some output) =

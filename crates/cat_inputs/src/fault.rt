@@ -5,6 +5,8 @@ ghost use Rattle.cat_inputs.specs.Faults.{place_text, json_fault, text_fault, un
 use cat_ref::fault::RefFault;
 use cat_tree::read::TreeFault;
 use std::alloc::{AllocError, AllocFailed};
+use std::fmt;
+use thiserror::Error;
 
 /// A field of the body of a request.
 #[derive(Clone, Copy, Debug, Drop, PartialEq, Eq)]
@@ -35,39 +37,58 @@ impl Place {
     }
 }
 
+impl fmt::Display for Place {
+    fn fmt<W: fmt::Write>(&self, f: &mut fmt::Formatter<W>) -> fmt::Result {
+        write!(f, "{}", self.text())
+    }
+}
+
 /// Why a body is no mutation: the first of these that holds, in this order.
-#[derive(Clone, Copy, Debug, Drop, PartialEq, Eq)]
+#[derive(Clone, Copy, Debug, Drop, PartialEq, Eq, Error)]
 pub enum InputFault {
     /// The bytes are no tree.
+    #[error("{0}")]
     Json(TreeFault),
     /// The field is missing or of another form.
+    #[error("the field {0} is missing or of another form")]
     Shape(Place),
     /// There are over 100,000 items.
+    #[error("over 100,000 items")]
     TooMany,
     /// The descriptor of this item is over 100 levels deep.
+    #[error("item {0} is over 100 levels deep")]
     Deep(usize),
     /// This item, or removed text, names no entity.
+    #[error("item {0} names no entity: {1}")]
     NoRef(usize, RefFault),
     /// This item, or removed text, has a reference that stands before it.
+    #[error("item {0} has the reference of one before it")]
     Duplicate(usize),
     /// There is no memory for the answer.
+    #[error("out of memory")]
     NoMemory,
 }
 
 /// Why a shelf text lists no descriptors: the first of these that holds, in this order.
-#[derive(Clone, Copy, Debug, Drop, PartialEq, Eq)]
+#[derive(Clone, Copy, Debug, Drop, PartialEq, Eq, Error)]
 pub enum ShelfFault {
     /// The text has no reading, in JSON or in block YAML.
+    #[error("neither JSON nor block YAML")]
     Syntax,
     /// The text has a number that is no integer of 64 bits.
+    #[error("a number is not an integer of 64 bits")]
     Fraction,
     /// The text is neither an object nor a list of objects, or has a document that is none.
+    #[error("neither an object nor a list of objects")]
     Shape,
     /// This descriptor is over 100 levels deep.
+    #[error("descriptor {0} is over 100 levels deep")]
     Deep(usize),
     /// This descriptor names no entity.
+    #[error("descriptor {0} names no entity: {1}")]
     NoRef(usize, RefFault),
     /// There is no memory for the answer.
+    #[error("out of memory")]
     NoMemory,
 }
 

@@ -1,13 +1,16 @@
 //! What calls on marks answer.
 use cat_ref::reference::Ref;
 use std::alloc::AllocError;
+use thiserror::Error;
 
 /// Why no room is made.
-#[derive(Clone, Copy, Debug, Drop, PartialEq, Eq)]
+#[derive(Clone, Copy, Debug, Drop, PartialEq, Eq, Error)]
 pub enum MarkFault {
     /// So many tickets would pass 2^59.
+    #[error("no ticket is left")]
     Spent,
     /// Memory is wanted.
+    #[error("out of memory")]
     NoMemory,
 }
 

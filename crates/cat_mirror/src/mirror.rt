@@ -9,6 +9,7 @@ use cat_ref::reference::Ref;
 use cat_table::map::Map;
 use cat_types::node::Node;
 use std::alloc::{AllocError, Global};
+use thiserror::Error;
 
 /// Documents that follow a feed, and the place in it that they stand for; none before the first changes.
 #[derive(Drop)]
@@ -18,11 +19,13 @@ pub struct Mirror {
 }
 
 /// Why changes aren't applied.
-#[derive(Clone, Copy, Debug, Drop, PartialEq, Eq)]
+#[derive(Clone, Copy, Debug, Drop, PartialEq, Eq, Error)]
 pub enum MirrorFault {
     /// They lead on from another place than the mirror's, which this is.
+    #[error("the changes lead on from another place")]
     Gap(Option<Since>),
     /// Want of memory.
+    #[error("out of memory")]
     NoMemory,
 }
 

@@ -71,10 +71,10 @@ pub record Rules : Type 0 where
   -- the tests of equality
   pub same_work : Work → Work → Bool
   pub same_parts : Parts → Parts → Bool
-  -- the laws that (i) and (ii) need
+  -- the laws that soundness and freshness need
   pub same_work-is : (x y : Work) → same_work x y ≡ true → x ≡ y
   pub same_parts-is : (x y : Parts) → same_parts x y ≡ true → x ≡ y
-  -- and those that (iii) needs too
+  -- and those that the bound on a settle needs too
   pub same_work-self : (x : Work) → same_work x x ≡ true
   pub same_parts-self : (x : Parts) → same_parts x x ≡ true
   pub offers_on_shelf : (shelf : Shelf) (tree : Tree) (output : Output) (issues : Issues) → result (work_with contents shelf tree) ≡ Good output issues

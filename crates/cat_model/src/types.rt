@@ -9,6 +9,8 @@ use cat_types::parts::Parts;
 use cat_types::table::Table;
 use cat_types::work::{Output, Work};
 use std::alloc::{AllocError, Global};
+use std::fmt;
+use thiserror::Error;
 
 /// What a provider gave: its last serial, and its items by reference.
 #[derive(Drop)]
@@ -131,7 +133,7 @@ pub struct StitchOrder {
 }
 
 /// The counters from which numbers are drawn.
-#[derive(Clone, Copy, Drop)]
+#[derive(Clone, Copy, Debug, Drop)]
 pub enum Counter {
     Arrival,
     Number,
@@ -139,12 +141,27 @@ pub enum Counter {
     Ticket,
 }
 
+impl fmt::Display for Counter {
+    fn fmt<W: fmt::Write>(&self, f: &mut fmt::Formatter<W>) -> fmt::Result {
+        match self {
+            Counter::Arrival => write!(f, "arrival"),
+            Counter::Number => write!(f, "number"),
+            Counter::Token => write!(f, "token"),
+            Counter::Ticket => write!(f, "ticket"),
+        }
+    }
+}
+
 /// Why an event is refused, the least number first.
-#[derive(Clone, Copy, Drop)]
+#[derive(Clone, Copy, Debug, Drop, Error)]
 pub enum Fault {
+    #[error("the serial is below {0}")]
     OldSerial(u64),
+    #[error("not found")]
     NotFound,
+    #[error("the inputs would have {0} bytes")]
     TooLarge(u64),
+    #[error("the counter {0} is spent")]
     Spent(Counter),
 }
 

@@ -18,13 +18,16 @@ use cat_table::map::Map;
 use cat_tree::text::Text;
 use cat_tree::tree::{Pairs, Tree, Trees};
 use std::alloc::{AllocError, Global};
+use thiserror::Error;
 
 /// Why there are no facets.
-#[derive(Clone, Copy, Debug, Drop, PartialEq, Eq)]
+#[derive(Clone, Copy, Debug, Drop, PartialEq, Eq, Error)]
 pub enum FacetFault {
     /// The query names no key.
+    #[error("the query names no facet")]
     NoFacet,
     /// Memory is wanted.
+    #[error("out of memory")]
     NoMemory,
 }
 

@@ -1,6 +1,7 @@
 //! What the records say of a reference, and what calls answer.
 use cat_ref::reference::Ref;
 use std::alloc::AllocError;
+use thiserror::Error;
 
 /// The order to process a record, under a token, until a moment.
 #[derive(Clone, Copy, Debug, Drop, PartialEq, Eq)]
@@ -19,11 +20,13 @@ pub struct RecordView {
 }
 
 /// Why nothing was done.
-#[derive(Clone, Copy, Debug, Drop, PartialEq, Eq)]
+#[derive(Clone, Copy, Debug, Drop, PartialEq, Eq, Error)]
 pub enum RecordFault {
     /// All numbers, or all tokens, are given out.
+    #[error("no number or no token is left")]
     Spent,
     /// Memory is wanted.
+    #[error("out of memory")]
     NoMemory,
 }
 

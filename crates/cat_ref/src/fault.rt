@@ -1,20 +1,27 @@
 //! Why a text or a descriptor names no entity.
 use std::alloc::{AllocError, AllocFailed};
+use thiserror::Error;
 
 /// Why a text or a descriptor names no entity: the first of these that holds.
-#[derive(Clone, Copy, Debug, Drop, PartialEq, Eq)]
+#[derive(Clone, Copy, Debug, Drop, PartialEq, Eq, Error)]
 pub enum RefFault {
     /// The text isn't `[kind:][namespace/]name`, or the descriptor or its metadata isn't a map.
+    #[error("not of the form [kind:][namespace/]name")]
     Shape,
     /// There is no kind, and no default for it.
+    #[error("no kind")]
     NoKind,
     /// The kind breaks its rule.
+    #[error("bad kind")]
     BadKind,
     /// The namespace breaks its rule.
+    #[error("bad namespace")]
     BadNamespace,
     /// The name breaks its rule.
+    #[error("bad name")]
     BadName,
     /// Memory is wanted.
+    #[error("out of memory")]
     NoMemory,
 }
 

@@ -31,6 +31,7 @@ failure e = dict (members_of ((codes "entityRef", words e.0) ∷ (codes "items",
 abbrev pub failures_in : Map Record → List Data
 failures_in records = map failure (filter is_failure records)
 
+-- the failures as a list
 abbrev pub failures_listed : Map Record → Data
 failures_listed records = list (items_of (failures_in records))
 
@@ -53,6 +54,7 @@ conflict_shown c = dict (members_of (
     ∷ (codes "waiting", row_shown c.waiting)
     ∷ []))
 
+-- the conflicts as a list
 abbrev pub conflicts_shown : List Conflict → Data
 conflicts_shown found = list (items_of (map conflict_shown found))
 

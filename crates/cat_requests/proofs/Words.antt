@@ -1,6 +1,8 @@
 -- The words of errors.
-use Rattle.std.proofs.Common.{◌≡◌, ℕ, List, [], ◌∷◌, ◌++◌, refl, ap, ◌∙◌, append_assoc, codes}
+use Rattle.std.proofs.Common.{◌≡◌, ℕ, List, [], ◌∷◌, ◌++◌, refl, sym, ap, ◌∙◌, append_assoc, codes}
 use Rattle.std.specs.Fmt.{decimal}
+use Rattle.cat_changes.specs.Place.{since_text}
+use Rattle.cat_feed.specs.declared.change.Since.{Since}
 use Rattle.cat_http.specs.Errors.{error_body}
 use Rattle.cat_replies.specs.Line.{joined}
 
@@ -13,3 +15,7 @@ pub error_parts : (status : ℕ) (a b c d : List ℕ) → error_body status (joi
     ≡ joined (codes "{\"error\":{\"message\":\"" ∷ a ∷ b ∷ c ∷ d ∷ codes "\"},\"response\":{\"statusCode\":" ∷ decimal status ∷ codes "}}" ∷ [])
 error_parts status a b c d =
     ap (λ l. codes "{\"error\":{\"message\":\"" ++ l) (joined_onto (a ∷ b ∷ c ∷ d ∷ []) (codes "\"},\"response\":{\"statusCode\":" ∷ decimal status ∷ codes "}}" ∷ []))
+
+-- the words of a place are its numbers with a point between them
+pub place_parts : (words : List ℕ) (place : Since) → joined (words ∷ decimal place.epoch ∷ codes "." ∷ decimal place.number ∷ []) ≡ joined (words ∷ since_text place ∷ [])
+place_parts words place = ap (λ l. words ++ l) (sym (append_assoc (decimal place.epoch) (46 ∷ decimal place.number) []))

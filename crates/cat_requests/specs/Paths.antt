@@ -8,7 +8,7 @@ use Rattle.cat_table.specs.Table.{Text}
 use Rattle.cat_inputs.specs.declared.form.Form.{Form}
 use Rattle.cat_inputs.specs.declared.form.Form.TheVariants.{Full, Delta}
 use Rattle.cat_requests.specs.declared.path.Fixed.{Fixed}
-use Rattle.cat_requests.specs.declared.path.Fixed.TheVariants.{Entities, ByQuery, ByRefs, EntityFacets, Refresh, Shelf, Settle, Conflicts, Failed, Orphans}
+use Rattle.cat_requests.specs.declared.path.Fixed.TheVariants.{Entities, ByQuery, ByRefs, EntityFacets, Refresh, Shelf, Settle, Conflicts, Failed, Orphans, Changes}
 use Rattle.cat_requests.specs.declared.path.Pattern.{Pattern}
 use Rattle.cat_requests.specs.declared.path.Pattern.TheVariants.{ByUid, ByName, Mutation}
 use Rattle.cat_requests.specs.declared.path.Resource.{Resource}
@@ -30,9 +30,10 @@ fixed_text Settle = codes "/settle"
 fixed_text Conflicts = codes "/conflicts"
 fixed_text Failed = codes "/failed"
 fixed_text Orphans = codes "/orphans"
+fixed_text Changes = codes "/changes"
 
 abbrev pub all_fixed : List Fixed
-all_fixed = Entities ∷ (ByQuery ∷ (ByRefs ∷ (EntityFacets ∷ (Refresh ∷ (Shelf ∷ (Settle ∷ (Conflicts ∷ (Failed ∷ (Orphans ∷ [])))))))))
+all_fixed = Entities ∷ (ByQuery ∷ (ByRefs ∷ (EntityFacets ∷ (Refresh ∷ (Shelf ∷ (Settle ∷ (Conflicts ∷ (Failed ∷ (Orphans ∷ (Changes ∷ []))))))))))
 
 -- the fixed path that is written so, if there is one
 abbrev pub fixed_named : List ℕ → Option Fixed

@@ -9,11 +9,12 @@ use Rattle.cat_inputs.specs.declared.fault.InputFault.{InputFault}
 use Rattle.cat_inputs.specs.declared.fault.InputFault.TheVariants as input
 use Rattle.cat_query.specs.declared.fault.QueryFault.{QueryFault}
 use Rattle.cat_query.specs.declared.fault.QueryFault.TheVariants as query
+use Rattle.cat_changes.specs.Place.{since_text}
 use Rattle.cat_replies.specs.Events.{counter_text}
 use Rattle.cat_requests.specs.declared.refusal.Methods.{Methods}
 use Rattle.cat_requests.specs.declared.refusal.Methods.TheVariants as methods
 use Rattle.cat_requests.specs.declared.refusal.Refusal.{Refusal}
-use Rattle.cat_requests.specs.declared.refusal.Refusal.TheVariants.{Route, Method, Entity, Shelf, Name, Text, Reference, Input, Query, Facet, OldSerial, TooLarge, Spent, CutByCounter, CutByMemory, Reply, NoMemory}
+use Rattle.cat_requests.specs.declared.refusal.Refusal.TheVariants.{Route, Method, Entity, Shelf, Name, Text, Reference, Input, Query, Facet, Place, Gone, Ahead, OldSerial, TooLarge, Spent, CutByCounter, CutByMemory, SpentFeed, Reply, NoMemory}
 
 -- the methods of a path
 abbrev pub methods_of : Methods → List (List ℕ)
@@ -39,11 +40,15 @@ status_of (Reference i) = 400
 status_of (Input fault) = 400
 status_of (Query fault) = 400
 status_of Facet = 400
+status_of Place = 400
+status_of (Gone since) = 410
+status_of (Ahead since) = 400
 status_of (OldSerial last) = 409
 status_of (TooLarge sum) = 413
 status_of (Spent counter) = 500
 status_of (CutByCounter events counter) = 500
 status_of (CutByMemory events) = 507
+status_of SpentFeed = 500
 status_of Reply = 500
 status_of NoMemory = 507
 
@@ -83,11 +88,15 @@ words_of (Reference i) = codes "reference " ∷ decimal i ∷ []
 words_of (Input fault) = input_words fault
 words_of (Query fault) = query_words fault
 words_of Facet = codes "facet" ∷ []
+words_of Place = codes "since" ∷ []
+words_of (Gone since) = codes "gone " ∷ since_text since ∷ []
+words_of (Ahead since) = codes "ahead " ∷ since_text since ∷ []
 words_of (OldSerial last) = codes "old_serial " ∷ decimal last ∷ []
 words_of (TooLarge sum) = codes "too_large " ∷ decimal sum ∷ []
 words_of (Spent counter) = codes "spent " ∷ counter_text counter ∷ []
 words_of (CutByCounter events counter) = codes "spent " ∷ counter_text counter ∷ codes " " ∷ decimal events ∷ []
 words_of (CutByMemory events) = codes "memory " ∷ decimal events ∷ []
+words_of SpentFeed = codes "spent feed" ∷ []
 words_of Reply = codes "reply" ∷ []
 words_of NoMemory = codes "memory" ∷ []
 

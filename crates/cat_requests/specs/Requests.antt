@@ -5,6 +5,8 @@ use Rattle.cat_ref.specs.Reference.{parsed}
 use Rattle.cat_ref.specs.declared.fault.RefFault.{RefFault}
 use Rattle.cat_table.specs.Table.{Text as Words}
 use Rattle.cat_types.specs.declared.input.Mutation.{Mutation}
+use Rattle.cat_feed.specs.declared.change.Since.{Since}
+use Rattle.cat_changes.specs.Place.{since_of}
 use Rattle.cat_inputs.specs.Inputs.{mutation_of}
 use Rattle.cat_inputs.specs.declared.fault.InputFault.{InputFault}
 use Rattle.cat_inputs.specs.declared.form.Form.{Form}
@@ -27,7 +29,7 @@ use Rattle.cat_requests.specs.declared.path.Resource.{Resource}
 use Rattle.cat_requests.specs.declared.path.Resource.TheVariants as resource
 use Rattle.cat_requests.specs.declared.refusal.Methods.TheVariants.{Reads, ReadsAndDeletes, Posts, PutsAndDeletes}
 use Rattle.cat_requests.specs.declared.refusal.Refusal.{Refusal}
-use Rattle.cat_requests.specs.declared.refusal.Refusal.TheVariants.{Route, Method, Entity, Name, Text}
+use Rattle.cat_requests.specs.declared.refusal.Refusal.TheVariants.{Route, Method, Entity, Name, Text, Place}
 use Rattle.cat_requests.specs.declared.request.Request.{Request}
 use Rattle.cat_requests.specs.declared.request.Request.TheVariants as request
 use Rattle.cat_requests.specs.declared.request.Verb.{Verb}
@@ -110,6 +112,21 @@ mutated provider (Err fault) = Err (input_refusal fault)
 abbrev pub mutate : Words → Form → Message → Result Request Refusal
 mutate provider form m = if is_name provider then mutated provider (mutation_of form m.body) else Err Name
 
+-- ---- changes
+
+abbrev pub place_by : Option Since → Result (Option Since) Refusal
+place_by None = Err Place
+place_by (Some since) = Ok (Some since)
+
+abbrev pub place_among : List Words → Result (Option Since) Refusal
+place_among [] = Ok None
+place_among (text ∷ []) = place_by (since_of text)
+place_among (text ∷ other ∷ texts) = Err Place
+
+-- the place from which a message asks for changes, if it says one: its parameter `since`, which stands at most once
+abbrev pub place_of : Message → Result (Option Since) Refusal
+place_of m = place_among (values_named (codes "since") (parameters_of m.query))
+
 -- ---- requests
 
 -- the method is one that reads, or the path has others
@@ -169,8 +186,9 @@ question fixed.Orphans m = Ok ask.Orphans
 question fixed.Refresh m = Err Route
 question fixed.Shelf m = Err Route
 question fixed.Settle m = Err Route
+question fixed.Changes m = Err Route
 
--- the questions read, but for that of many references; the commands have methods of their own
+-- the questions and the changes read, but for that of many references; the commands have methods of their own
 abbrev pub fixed_by : Fixed → Option Verb → Message → Result Request Refusal
 fixed_by fixed.Shelf v m = shelved_by v m
 fixed_by fixed.Settle v m = posted_by v (Ok request.Settle)
@@ -182,6 +200,7 @@ fixed_by fixed.EntityFacets v m = asked_by v (question fixed.EntityFacets m)
 fixed_by fixed.Conflicts v m = asked_by v (question fixed.Conflicts m)
 fixed_by fixed.Failed v m = asked_by v (question fixed.Failed m)
 fixed_by fixed.Orphans v m = asked_by v (question fixed.Orphans m)
+fixed_by fixed.Changes v m = with_method (reads v) (on request.Changes (place_of m))
 
 abbrev pub resource_asked : Resource → Option Verb → Message → Result Request Refusal
 resource_asked (resource.Fixed f) v m = fixed_by f v m

@@ -1,6 +1,7 @@
 //! How requests are answered.
 ghost use Rattle.std.specs.Prelude.{◌≡◌, ◌++◌, ◌+◌, ◌≤◌, ◌∷◌, [], IfOk, IsOk, OnOk, map, length, vec_capacity, vec_len};
 ghost use Rattle.cat_http.specs.Errors.{error_body};
+ghost use Rattle.cat_changes.specs.Place.{since_text};
 ghost use Rattle.cat_replies.specs.Events.{counter_text};
 ghost use Rattle.cat_replies.specs.Line.{joined};
 ghost use Rattle.cat_replies.specs.Piece.{piece_most, piece_text};
@@ -8,6 +9,7 @@ ghost use Rattle.cat_requests.specs.Answers as spec;
 ghost use Rattle.cat_requests.specs.Refusals.{allowed, input_words, methods_of, query_words, status_of, words_of};
 
 use crate::refusal::{Methods, Refusal};
+use cat_feed::change::Since;
 use cat_http::body::{Bytes, Texts};
 use cat_http::message::Message;
 use cat_http::reply::HttpReply;
@@ -104,6 +106,21 @@ fn push_at(out: &mut Vec<u8>, status: u16, words: &str, number: u64) -> Result<(
     )
 }
 
+fn push_place(out: &mut Vec<u8>, status: u16, words: &str, place: Since) -> Result<(), AllocError>
+    ensures ok { OnOk result (out.new.items ≡ out.old.items
+        ++ error_body status (joined (words.now ∷ since_text place ∷ []))) }
+    ensures room { vec_len out.old + (121 + length words.now) ≤ vec_capacity out.old → IsOk result }
+{
+    push_error(
+        out,
+        status,
+        Piece::Text(words),
+        Piece::Number(place.epoch),
+        Piece::Text("."),
+        Piece::Number(place.number),
+    )
+}
+
 fn push_input(out: &mut Vec<u8>, fault: InputFault) -> Result<(), AllocError>
     ensures { OnOk result (out.new.items ≡ out.old.items ++ error_body 400 (joined (input_words fault))) }
 {
@@ -169,11 +186,15 @@ fn push_refusal(out: &mut Vec<u8>, refusal: Refusal) -> Result<(), AllocError>
         Refusal::Input(fault) => push_input(out, fault),
         Refusal::Query(fault) => push_query(out, fault),
         Refusal::Facet => push_words(out, 400, "facet"),
+        Refusal::Place => push_words(out, 400, "since"),
+        Refusal::Gone(place) => push_place(out, 410, "gone ", place),
+        Refusal::Ahead(place) => push_place(out, 400, "ahead ", place),
         Refusal::OldSerial(last) => push_at(out, 409, "old_serial ", last),
         Refusal::TooLarge(sum) => push_at(out, 413, "too_large ", sum),
         Refusal::Spent(counter) => push_spent(out, counter),
         Refusal::CutByCounter(events, counter) => push_cut(out, events, counter),
         Refusal::CutByMemory(events) => push_at(out, 507, "memory ", events),
+        Refusal::SpentFeed => push_words(out, 500, "spent feed"),
         Refusal::Reply => push_words(out, 500, "reply"),
         Refusal::NoMemory => push_words(out, 507, "memory"),
     }
@@ -248,10 +269,14 @@ fn status(refusal: Refusal) -> u16
         | Refusal::Reference(_)
         | Refusal::Input(_)
         | Refusal::Query(_)
-        | Refusal::Facet => 400,
+        | Refusal::Facet
+        | Refusal::Place
+        | Refusal::Ahead(_) => 400,
         Refusal::OldSerial(_) => 409,
+        Refusal::Gone(_) => 410,
         Refusal::TooLarge(_) => 413,
-        Refusal::Spent(_) | Refusal::CutByCounter(_, _) | Refusal::Reply => 500,
+        Refusal::Spent(_) | Refusal::CutByCounter(_, _) | Refusal::SpentFeed | Refusal::Reply =>
+            500,
         Refusal::CutByMemory(_) | Refusal::NoMemory => 507,
     }
 }

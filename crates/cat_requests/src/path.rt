@@ -22,9 +22,10 @@ pub enum Fixed {
     Conflicts,
     Failed,
     Orphans,
+    Changes,
 }
 
-const FIXED: [Fixed; 10] = [
+const FIXED: [Fixed; 11] = [
     Fixed::Entities,
     Fixed::ByQuery,
     Fixed::ByRefs,
@@ -35,6 +36,7 @@ const FIXED: [Fixed; 10] = [
     Fixed::Conflicts,
     Fixed::Failed,
     Fixed::Orphans,
+    Fixed::Changes,
 ];
 
 impl Fixed {
@@ -53,6 +55,7 @@ impl Fixed {
             Fixed::Conflicts => "/conflicts",
             Fixed::Failed => "/failed",
             Fixed::Orphans => "/orphans",
+            Fixed::Changes => "/changes",
         }
     }
 }

@@ -2,6 +2,7 @@
 ghost use Rattle.std.specs.Prelude.{◌≡◌};
 ghost use Rattle.cat_requests.specs.Refusals.{input_refusal, query_refusal};
 
+use cat_feed::change::Since;
 use cat_inputs::fault::InputFault;
 use cat_model::types::Counter;
 use cat_query::fault::QueryFault;
@@ -43,6 +44,12 @@ pub enum Refusal {
     Query(QueryFault),
     /// The query names no facet.
     Facet,
+    /// The place from which changes are asked is malformed, or stands twice.
+    Place,
+    /// The place isn't kept any more; the first place that is.
+    Gone(Since),
+    /// The place wasn't reached yet; the feed's place.
+    Ahead(Since),
     /// The serial is below the last one.
     OldSerial(u64),
     /// The stored input would have so many bytes.
@@ -53,6 +60,8 @@ pub enum Refusal {
     CutByCounter(u64, Counter),
     /// A settle was cut after so many events, for want of memory.
     CutByMemory(u64),
+    /// The feed has no numbers left.
+    SpentFeed,
     /// The desk answered what isn't asked of it.
     Reply,
     /// Want of memory.

@@ -8,8 +8,10 @@ use crate::parameters::{parameters, values_named};
 use crate::path::{Fixed, Resource, resource_of};
 use crate::refusal::{Methods, Refusal, input_refusal, query_refusal};
 use crate::uid::number_of_uid;
+use cat_changes::place::since_of;
 use cat_commands::argument::utf8_in;
 use cat_commands::query::query_of;
+use cat_feed::change::Since;
 use cat_http::message::Message;
 use cat_inputs::form::Form;
 use cat_inputs::input::read_mutation;
@@ -39,6 +41,8 @@ pub enum Request {
     Settle,
     /// Ask the catalogue.
     Ask(Ask),
+    /// Tell what changed since a place, or every document without one.
+    Changes(Option<Since>),
 }
 
 /// A method, where HEAD asks as GET does.
@@ -185,6 +189,29 @@ fn mutate(alloc: Global, provider: Text, form: Form, message: &Message) -> Resul
     }
 }
 
+fn place_among(places: &[&str]) -> Result<Option<Since>, Refusal>
+    ensures { result ≡ spec.place_among (map (λ t. t.now) places.now) }
+{
+    match places {
+        [] => Ok(None),
+        [place] => match since_of(place) {
+            Some(since) => Ok(Some(since)),
+            None => Err(Refusal::Place),
+        },
+        _ => Err(Refusal::Place),
+    }
+}
+
+// The place from which a message asks for changes, if it says one.
+fn place(alloc: Global, message: &Message) -> Result<Option<Since>, Refusal>
+    ensures ok { IfOk result (λ s. spec.place_of message.now ≡ Ok s) }
+    ensures err { IfErr result (λ e. (spec.place_of message.now ≡ Err e) ⊎ (e ≡ Refusal.NoMemory)) }
+{
+    let parameters = parameters(alloc, message.query.as_str())?;
+    let places = values_named(alloc, "since", parameters.as_slice())?;
+    place_among(places.as_slice())
+}
+
 fn shelved(alloc: Global, verb: Option<Verb>, message: &Message) -> Result<Request, Refusal>
     ensures ok { IfOk result (λ r. spec.shelved_by verb message.now ≡ Ok r) }
     ensures err { IfErr result (λ e. (spec.shelved_by verb message.now ≡ Err e) ⊎ (e ≡ Refusal.NoMemory)) }
@@ -248,6 +275,10 @@ fn fixed(
         Fixed::ByRefs => {
             posts(verb)?;
             Ok(Request::Ask(question(alloc, fixed, message)?))
+        }
+        Fixed::Changes => {
+            reads(verb)?;
+            Ok(Request::Changes(place(alloc, message)?))
         }
         _ => {
             reads(verb)?;

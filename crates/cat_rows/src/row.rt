@@ -5,6 +5,7 @@ use cat_tree::text::Text;
 use cat_types::issue::Issue;
 use cat_types::node::Node;
 use std::alloc::{AllocError, AllocFailed};
+use thiserror::Error;
 
 /// A counter whose next number is stored.
 #[derive(Clone, Copy, Debug, Drop, PartialEq, Eq)]
@@ -103,11 +104,13 @@ pub enum StoredRow {
 }
 
 /// Why texts give no row.
-#[derive(Clone, Copy, Debug, Drop, PartialEq, Eq)]
+#[derive(Clone, Copy, Debug, Drop, PartialEq, Eq, Error)]
 pub enum RowFault {
     /// They are not the spelling of a row.
+    #[error("not the spelling of a row")]
     BadRow,
     /// Memory is wanted.
+    #[error("out of memory")]
     NoMemory,
 }
 

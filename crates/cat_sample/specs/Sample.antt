@@ -78,6 +78,7 @@ abbrev pub named_item : Data → Result Text RefFault → List Item
 named_item tree (Ok reference) = record { reference = reference; key = None; tree = tree } ∷ []
 named_item tree (Err fault) = []
 
+-- the descriptor as an item of a mutation
 abbrev pub item_of : Data → List Item
 item_of tree = named_item tree (described tree)
 

@@ -4,6 +4,7 @@ ghost use Rattle.std.specs.Prelude.{◌≡◌};
 use cat_tree::text::Text;
 use std::alloc::{AllocError, AllocFailed};
 use std::marker::Model;
+use thiserror::Error;
 
 /// What one condition asks: that a document has a row with the key, and where there is a value, with
 /// this value.
@@ -47,11 +48,13 @@ impl Filter {
 }
 
 /// Why a text is no filter.
-#[derive(Clone, Copy, Debug, Drop, PartialEq, Eq)]
+#[derive(Clone, Copy, Debug, Drop, PartialEq, Eq, Error)]
 pub enum FilterFault {
     /// The condition at this place among the pieces between the commas has no key.
+    #[error("condition {0} has no key")]
     EmptyKey(usize),
     /// Memory is wanted.
+    #[error("out of memory")]
     NoMemory,
 }
 

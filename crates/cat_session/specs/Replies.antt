@@ -38,6 +38,7 @@ cut_text events (core.TooLarge sum) = say.cut_by_memory events
 cut_text events (core.Spent counter) = say.cut_by_counter events counter
 cut_text events core.NoMemory = say.cut_by_memory events
 
+-- the line of a settle that was cut
 abbrev pub cut_line : Cut → List ℕ
 cut_line cut = cut_text cut.events cut.fault
 

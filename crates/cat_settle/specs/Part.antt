@@ -30,6 +30,7 @@ abbrev pub moved_in : {A E : Type 0} → Result A E → Event → Stepped → Pr
 moved_in (Ok x) e c p = moved e c p
 moved_in (Err x) e c p = p
 
+-- a part of a settle: how far it comes, with a limit on its events or without one
 abbrev pub Part : Type 0
 Part = Option ℕ → Progress
 

@@ -13,6 +13,7 @@ use crate::resolve::{base_url, name_of};
 use cat_tree::text::Text;
 use cat_tree::tree::Tree;
 use std::alloc::{AllocError, AllocFailed, Global};
+use thiserror::Error;
 use url::Url;
 
 const MOST_TARGETS: usize = 1000;
@@ -27,15 +28,19 @@ pub struct Target {
 }
 
 /// Why a Location has no targets.
-#[derive(Clone, Copy, Debug, Drop, PartialEq, Eq)]
+#[derive(Clone, Copy, Debug, Drop, PartialEq, Eq, Error)]
 pub enum TargetFault {
     /// It has over 1,000 target texts.
+    #[error("over 1,000 targets")]
     TooMany,
     /// It has a target text, but neither a type of its own nor a base.
+    #[error("no type and no base for the targets")]
     NoType,
     /// The text at this place, the first such, has no name. Places count from 0, over `target` and then `targets`.
+    #[error("target {0} has no name")]
     BadTarget(usize),
     /// Want of memory.
+    #[error("out of memory")]
     NoMemory,
 }
 

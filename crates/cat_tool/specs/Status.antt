@@ -7,7 +7,6 @@ use Rattle.cat_loop.specs.Word.{After, Reply}
 use Rattle.cat_loop.specs.Session.{Outcome, Transcript}
 use Rattle.cat_loop.specs.declared.line_loop.SessionEnd.{SessionEnd}
 use Rattle.cat_loop.specs.declared.line_loop.SessionEnd.TheVariants.{Whole, ReadFault, WriteFault, Bound, NoMemory}
-use Rattle.cat_wire.specs.Runs as messages
 use Rattle.cat_wire.specs.Connection as connection
 use Rattle.cat_wire.specs.declared.message_loop.ConnEnd.{ConnEnd}
 use Rattle.cat_wire.specs.declared.message_loop.ConnEnd.TheVariants as conn
@@ -36,10 +35,10 @@ HasRun after reply status left left' written written' m new =
     × IfSome left (Transcript after reply end written written' m new)
 
 -- A connection was answered, and ended with this status: the same of the messages of the bytes.
-abbrev pub HasServed : {A : Type 0} → messages.After A → messages.Reply A → ℕ → Option (List ℕ) → Option (List ℕ) → Option (List ℕ) → Option (List ℕ) → A → A → Type 0
-HasServed after reply status left left' written written' m new =
-    (end : ConnEnd) × (status ≡ connection_status end) × connection.Outcome after reply end left left' written written' m new
-    × IfSome left (connection.Transcript after reply end written written' m new)
+abbrev pub HasServed : {A : Type 0} → connection.Run A → ℕ → Option (List ℕ) → Option (List ℕ) → Option (List ℕ) → Option (List ℕ) → A → A → Type 0
+HasServed run status left left' written written' m new =
+    (end : ConnEnd) × (status ≡ connection_status end) × connection.Outcome run end left left' written written' m new
+    × IfSome left (connection.Transcript run end written written' m new)
 
 -- A line was written whole, with the status 0; or the sink failed in it, with the status 4; or memory was wanted, with the status 9.
 abbrev pub HasTold : List ℕ → ℕ → Option (List ℕ) → Option (List ℕ) → ℕ → ℕ → Type 0

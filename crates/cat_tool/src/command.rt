@@ -4,6 +4,7 @@ ghost use Rattle.std.specs.Prelude.{◌≡◌, ◌≤◌, ◌⊎◌};
 ghost use Rattle.std.specs.Io.KnownBytes.{Appends};
 ghost use Rattle.cat_io.specs.Causes.{Rose};
 ghost use Rattle.cat_io.specs.Sink.{AppendsFront};
+ghost use Rattle.cat_wire.specs.Runs.{AnswersItems};
 ghost use Rattle.cat_tool.specs.Status.{HasRun, HasServed, HasTold, connection_status, status_of};
 
 use cat_io::{Sink, Source, write_all};
@@ -73,7 +74,7 @@ pub fn answer_messages<M: MessageMachine, S: Source, O: Sink>(
     source: &mut S,
     sink: &mut O,
 ) -> Status
-    ensures served { HasServed M.after M.reply result.0 (S.left source.old) (S.left source.new) (O.written sink.old) (O.written sink.new) machine.old machine.new }
+    ensures served { HasServed (AnswersItems M.answers M.lacks) result.0 (S.left source.old) (S.left source.new) (O.written sink.old) (O.written sink.new) machine.old machine.new }
     ensures read_fault { result.0 ≡ 3 → Rose (S.faults source.old) (S.faults source.new) }
     ensures write_fault { result.0 ≡ 4 → Rose (O.faults sink.old) (O.faults sink.new) }
     ensures memory { result.0 ≡ 9 → (source.new ≡ source.old) × (sink.new ≡ sink.old) }

@@ -3,7 +3,8 @@
 //! `run` carries the headline: for the command `session` the bytes written are the abstract catalogue's replies to the lines
 //! of the bytes that the source told, for `wire` those to the messages of one HTTP connection, and for `sample` the line of a
 //! sample; each status has its cause. It stands on cat_session and cat_api, whose machines are the catalogue over the real layers
-//! of cat_layers, on cat_loop and cat_wire, whose loops it calls, on cat_sample, and on cat_io for the ends.
+//! of cat_layers, on cat_fed for a catalogue with its feed, on cat_loop and cat_wire, whose loops it calls, on cat_sample, and on
+//! cat_io for the ends.
 #![tactic(auto)]
 
 mod command;

@@ -2,10 +2,10 @@
 
 ghost use Rattle.std.specs.Prelude.{◌≡◌, ◌≢◌, ℕ, List, [], Ok, Some, None, ◌<◌, ◌≤◌, ◌^◌, ◌↔◌, ◌⊎◌, map, string_bytes};
 ghost use Rattle.std.specs.Io.KnownBytes.{Appends};
-ghost use Rattle.cat_api.specs.Wire.{wire_after, wire_reply};
+ghost use Rattle.cat_api.specs.Wire.{Wired, wire_after, wire_reply};
 ghost use Rattle.cat_commands.specs.Lines.{line_of};
 ghost use Rattle.cat_commands.specs.declared.line.Line.TheVariants.{Settle};
-ghost use Rattle.cat_core.specs.declared.ledger.Ledger.{Ledger};
+ghost use Rattle.cat_feed.specs.Feed.{begun};
 ghost use Rattle.cat_io.specs.Causes.{Rose};
 ghost use Rattle.cat_io.specs.Sink.{AppendsFront};
 ghost use Rattle.cat_layers.specs.Layered.{layered};
@@ -20,6 +20,7 @@ ghost use Rattle.cat_replies.specs.Events.{settled};
 ghost use Rattle.cat_sample.specs.Summary.{sample_line};
 ghost use Rattle.cat_tool.specs.Sessions.{reply_next, session_at, session_next};
 ghost use Rattle.cat_tool.specs.Status.{HasRun, HasServed, HasTold};
+ghost use Rattle.cat_tool.specs.Wires.{wire_start};
 ghost use Rattle.cat_tool.specs.Words.{command_of};
 ghost use Rattle.cat_tool.specs.declared.command.TheConstants.{USAGE};
 ghost use Rattle.cat_transcript.specs.Inputs.{accepted_commands, inputs_fold, inputs_of};
@@ -27,12 +28,15 @@ ghost use Rattle.cat_transcript.specs.Program.{program_settings, session_start};
 ghost use Rattle.cat_transcript.specs.Quiet.{IsAtRest};
 ghost use Rattle.cat_transcript.specs.Session.{session_after, session_reply};
 ghost use Rattle.cat_transcript.specs.declared.state.SessionState.{SessionState};
+ghost use Rattle.cat_wire.specs.Worded.{HasWords};
 
 use crate::command::{Status, answer_lines, answer_messages, tell, usage};
 use crate::words::{Command, command_of};
 use cat_api::service::Service;
-use cat_core::catalogue::Catalogue;
-use cat_io::{Sink, Source};
+use cat_core::catalogue::{Catalogue, Done, Stitched};
+use cat_desk::timed::Timed;
+use cat_fed::fed::Fed;
+use cat_io::{FixedClock, Sink, Source};
 use cat_layers::layered::Layered;
 use cat_model::types::{OrphanRule, Settings};
 use cat_sample::sample;
@@ -55,12 +59,18 @@ fn settings(orphans: OrphanRule) -> Settings
     }
 }
 
-// An empty catalogue under a rule for orphans, as a service.
-fn empty_service(alloc: Global, orphans: OrphanRule) -> Service<Layered>
-    ensures { result ≡ record { settings = program_settings orphans; state = start } }
+// An empty catalogue under a rule for orphans, at the moment 0, with a feed of the epoch 0, as a service.
+fn empty_service<'a>(
+    alloc: Global,
+    orphans: OrphanRule,
+) -> Service<Done<'a, Layered>, Stitched<'a, Layered>, Fed<Layered, FixedClock>>
+    ensures catalogue { result.desk.timed.catalogue ≡ record { settings = program_settings orphans; state = start } }
+    ensures moment { result.desk.timed.clock.moment ≡ 0 }
+    ensures feed { result.desk.feed ≡ begun 0 }
 {
     let catalogue = Catalogue::empty(alloc, Layered, settings(orphans));
-    Service::new(alloc, catalogue)
+    let timed = Timed::new(catalogue, FixedClock::at(0));
+    Service::new(alloc, Fed::new(alloc, timed, 0))
 }
 
 // Answers the lines of the source over an empty catalogue, under a rule for orphans.
@@ -90,8 +100,8 @@ fn run_connection<S: Source, O: Sink>(
     source: &mut S,
     sink: &mut O,
 ) -> Status
-    ensures served { (end : Ledger) × HasServed (wire_after layered) (wire_reply layered) result.0
-        (S.left source.old) (S.left source.new) (O.written sink.old) (O.written sink.new) (record { settings = program_settings orphans; state = start }) end }
+    ensures served { (end : Wired) × HasServed (HasWords (wire_after layered) (wire_reply layered)) result.0
+        (S.left source.old) (S.left source.new) (O.written sink.old) (O.written sink.new) (wire_start orphans) end }
     ensures read_fault { result.0 ≡ 3 → Rose (S.faults source.old) (S.faults source.new) }
     ensures write_fault { result.0 ≡ 4 → Rose (O.faults sink.old) (O.faults sink.new) }
     ensures memory { result.0 ≡ 9 → (source.new ≡ source.old) × (sink.new ≡ sink.old) }
@@ -135,10 +145,10 @@ pub fn run<S: Source, O: Sink>(
         × HasRun (session_after layered (program_settings rule)) (session_reply layered (program_settings rule)) result.0
         (S.left source.old) (S.left source.new) (O.written sink.old) (O.written sink.new) session_start end }
 
-    // The same of the messages of a connection.
-    ensures connection { (rule : OrphanRule) → command_of (map string_bytes words.now) ≡ Some (Command.Wire rule) → (end : Ledger)
-        × HasServed (wire_after layered) (wire_reply layered) result.0
-        (S.left source.old) (S.left source.new) (O.written sink.old) (O.written sink.new) (record { settings = program_settings rule; state = start }) end }
+    // The same of the messages of a connection, with the catalogue's feed.
+    ensures connection { (rule : OrphanRule) → command_of (map string_bytes words.now) ≡ Some (Command.Wire rule) → (end : Wired)
+        × HasServed (HasWords (wire_after layered) (wire_reply layered)) result.0
+        (S.left source.old) (S.left source.new) (O.written sink.old) (O.written sink.new) (wire_start rule) end }
 
     // The line of a sample is that of the abstract catalogue.
     ensures sample { (seed count : ℕ) → command_of (map string_bytes words.now) ≡ Some (Command.Sample seed count)

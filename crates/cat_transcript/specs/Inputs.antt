@@ -64,6 +64,7 @@ abbrev pub unrefused : Rules → Settings → State → Option Event → List Ev
 unrefused rules s m None = []
 unrefused rules s m (Some e) = cond (is_none (refusal rules s e m)) (e ∷ []) []
 
+-- the accepted command of a line that has a reading
 abbrev pub accepted_of : Rules → Settings → State → Result Line LineFault → List Event
 accepted_of rules s m (Ok line) = unrefused rules s m (command_of line)
 accepted_of rules s m (Err fault) = []

@@ -34,6 +34,7 @@ use Rattle.cat_replies.specs.Faults as faults
 
 -- ---- what a line does
 
+-- the catalogue has this state, and all else of the session stays
 abbrev pub with_state : State → SessionState → SessionState
 with_state n m = record m { state = n }
 
@@ -56,12 +57,15 @@ abbrev pub unless_refused : Option Fault → Option Order → Option Order
 unless_refused None order = order
 unless_refused (Some fault) order = None
 
+-- the order that a take gives at the moment of the session
 abbrev pub order_given : Rules → Settings → SessionState → Option Order
 order_given rules s m = unless_refused (refusal rules s (Take m.now) m.state) (model.taken rules s m.now m.state)
 
+-- the session after a take: its order is kept
 abbrev pub after_take : Rules → Settings → SessionState → SessionState
 after_take rules s m = record (after_event rules s (Take m.now) m) { orders = add_order (order_given rules s m) m.orders }
 
+-- the session after the result of an order that was handed out, if one was
 abbrev pub after_finish : Rules → Settings → Option Order → SessionState → SessionState
 after_finish rules s None m = m
 after_finish rules s (Some x) m = after_event rules s (Finish x m.now) m
@@ -71,6 +75,7 @@ abbrev pub with_stitch : Option StitchOrder → SessionState → SessionState
 with_stitch None m = m
 with_stitch (Some x) m = record m { stitches = put nat_cmp x.ticket x m.stitches }
 
+-- the session after the document of a stitch order that was handed out, if one was
 abbrev pub after_place : Rules → Settings → Option StitchOrder → SessionState → SessionState
 after_place rules s None m = m
 after_place rules s (Some x) m = after_event rules s (PutStitch x) m
@@ -81,6 +86,7 @@ limit_of plain = None
 limit_of memory = None
 limit_of (cut n) = Some n
 
+-- how far the settle of a line comes, by the word of the line
 abbrev pub settled : Rules → Settings → Word → SessionState → Progress
 settled rules s word m = try_settle rules s m.now (limit_of word) m.state
 
@@ -99,6 +105,7 @@ after_reading rules s word (asks.Place ticket) m = after_place rules s (find nat
 after_reading rules s word asks.Settle m = with_state (settled rules s word m).state m
 after_reading rules s word (asks.Ask ask) m = m
 
+-- a line without a reading changes nothing
 abbrev pub after_result : Rules → Settings → Word → Result Line LineFault → SessionState → SessionState
 after_result rules s word (Ok line) m = after_reading rules s word line m
 after_result rules s word (Err fault) m = m
@@ -114,9 +121,11 @@ abbrev pub or_refused : Option Fault → List ℕ → List ℕ
 or_refused None reply = reply
 or_refused (Some fault) reply = say.refused fault
 
+-- the reply to an event: its refusal, or this
 abbrev pub event_reply : Rules → Settings → Event → SessionState → List ℕ → List ℕ
 event_reply rules s e m reply = or_refused (refusal rules s e m.state) reply
 
+-- the reply to a take: the order, or that nothing is due
 abbrev pub order_reply : Option Order → List ℕ
 order_reply None = say.nothing
 order_reply (Some x) = say.ordered x.token x.reference
@@ -126,10 +135,12 @@ abbrev pub finish_reply : Rules → Settings → Option Order → SessionState �
 finish_reply rules s None m = say.unknown
 finish_reply rules s (Some x) m = event_reply rules s (Finish x m.now) m (say.finished (model.finished rules x m.state))
 
+-- the reply to a take of a mark: its ticket, or that there is none
 abbrev pub ticket_reply : Option StitchOrder → List ℕ
 ticket_reply None = say.nothing
 ticket_reply (Some x) = say.ticketed x.ticket x.reference
 
+-- the reply to a document that comes back, by the stitch order that was handed out
 abbrev pub place_reply : Rules → Settings → Option StitchOrder → SessionState → List ℕ
 place_reply rules s None m = say.unknown
 place_reply rules s (Some x) m = event_reply rules s (PutStitch x) m (say.placed (model.placed rules x m.state))
@@ -141,6 +152,7 @@ cut_reply events (OldSerial last) = say.cut_by_memory events
 cut_reply events NotFound = say.cut_by_memory events
 cut_reply events (TooLarge sum) = say.cut_by_memory events
 
+-- the reply to a settle, by why it stopped
 abbrev pub stop_reply : Progress → Option Stop → List ℕ
 stop_reply p None = say.settled (model.counts p)
 stop_reply p (Some (Refused fault)) = cut_reply p.events fault
@@ -152,6 +164,7 @@ settle_reply plain p = stop_reply p p.stop
 settle_reply memory p = stop_reply p p.stop
 settle_reply (cut n) p = say.cut_by_memory p.events
 
+-- the reply to a line that has a reading
 abbrev pub reply_to : Rules → Settings → Word → Line → SessionState → List ℕ
 reply_to rules s word (asks.Mutate provider mutation) m = event_reply rules s (Mutate provider (given provider mutation)) m (say.acted (model.acted provider (given provider mutation) m.state))
 reply_to rules s word (asks.ShelfPut name text) m = event_reply rules s (ShelfPut name text) m say.changed
@@ -176,6 +189,7 @@ line_fault (Reference place) = faults.no_reference place
 line_fault (Query fault) = faults.no_query fault
 line_fault NoMemory = say.no_memory
 
+-- the reply to a line, or to one without a reading
 abbrev pub reply_to_result : Rules → Settings → Word → Result Line LineFault → SessionState → List ℕ
 reply_to_result rules s word (Ok line) m = reply_to rules s word line m
 reply_to_result rules s word (Err fault) m = line_fault fault

@@ -17,17 +17,21 @@ use crate::tree::{Pairs, Tree, Trees};
 use serde_json::{Map, Number, Value};
 use std::alloc::{AllocError, AllocFailed, Global};
 use std::str;
+use thiserror::Error;
 
 /// Why bytes give no tree.
-#[derive(Clone, Copy, Debug, Drop, PartialEq, Eq)]
+#[derive(Clone, Copy, Debug, Drop, PartialEq, Eq, Error)]
 pub enum TreeFault {
     /// They aren't JSON text: bad UTF-8, a breach of the grammar, nesting over 127, a number past the
     /// floats.
+    #[error("not JSON text")]
     Syntax,
     /// They are JSON text with a number that isn't an integer of 64 bits: one with a fraction or an
     /// exponent, one too large, or `-0`.
+    #[error("a number is not an integer of 64 bits")]
     Fraction,
     /// Memory is wanted.
+    #[error("out of memory")]
     NoMemory,
 }
 

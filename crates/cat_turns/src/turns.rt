@@ -17,6 +17,7 @@ use std::alloc::{AllocFailed, Global};
 use std::hint::spin_loop;
 use std::marker::Model;
 use std::sync::Wait;
+use thiserror::Error;
 
 // The word of the list's length.
 const LENGTH: usize = 0;
@@ -36,11 +37,13 @@ const LOW_BITS: u64 = 0xffff_ffff;
 const LOOKS: u32 = 2_000;
 
 /// There was no memory.
-#[derive(Clone, Copy)]
+#[derive(Clone, Copy, Debug, Error)]
+#[error("out of memory")]
 pub struct NoMemory;
 
 /// No pass is given out: so many passes are out, and so many numbers are drawn.
-#[derive(Clone, Copy)]
+#[derive(Clone, Copy, Debug, Error)]
+#[error("no seat is free: {out} passes are out, and {drawn} numbers are drawn")]
 pub struct NoSeat {
     pub out: u64,
     pub drawn: u64,

@@ -1,5 +1,5 @@
 pub mod Fronts
 pub mod Preceding
 pub mod Running
-pub mod Replying
 pub mod Connections
+pub mod Wording

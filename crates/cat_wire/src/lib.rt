@@ -2,12 +2,14 @@
 //!
 //! `connection` reads the bytes of a source, cuts them into messages, asks a machine for the reply to each, and writes it to
 //! a sink before it goes on. What the machine does with a message is the machine's matter: the trait `Machine` says it by two
-//! functions, the state after a message and the bytes of the reply to it. The loop promises that the bytes written are the
-//! replies to the messages of the bytes that the source told, whatever pieces they come in, up to the message that ends the
-//! connection; that a fault is told only where an end counted one; that want of memory ends it only before the first read;
-//! and that it ends at 2^40 bytes.
+//! relations, what a message may do to it with which reply, and what want of memory may do to it. The loop promises that the
+//! bytes written are the replies to the messages of the bytes that the source told, whatever pieces they come in, up to the
+//! message that ends the connection, and that these lead the machine from its first state to its last one, in their order;
+//! that a fault is told only where an end counted one; that want of memory ends it only before the first read; and that it
+//! ends at 2^40 bytes. Where a machine's steps are functions of a message and of a word that says what came of it, what is
+//! written is computed from the messages and their words.
 //!
-//! It stands on cat_http for messages and replies, on cat_io for the ends, and on cat_loop for what comes of a message.
+//! It stands on cat_http for messages and replies, on cat_io for the ends, and on cat_loop for what a read takes.
 #![tactic(auto)]
 
 mod machine;

@@ -1,28 +1,22 @@
 //! What answers the messages of a connection.
 
-ghost use Rattle.std.specs.Prelude.{◌≡◌, ℕ, List, IfOk, OnErr};
+ghost use Rattle.std.specs.Prelude.{ℕ, List, IfOk, OnErr};
 ghost use Rattle.cat_http.specs.declared.message.Message.{Message as Seen};
-ghost use Rattle.cat_loop.specs.Word.{Word};
-ghost use Rattle.cat_wire.specs.Runs.{AnswersMessage};
 
 use cat_http::message::Message;
 use std::alloc::AllocError;
 
-/// What answers the messages of a connection, seen by what it does with a message: the state after it, and the bytes of the
-/// reply to it. Both depend on the message's word, which says whether the message acted, lacked memory, or was cut for want of
-/// memory after so many events.
-///
-/// A message whose word is `memory` is the loop's own matter: it is answered 507, and the state stays. So what these functions
-/// say of such a message doesn't count.
+/// What answers the messages of a connection, seen by two relations: what a message may do to it, with the bytes of the reply, and
+/// what want of memory may do to it. So a catalogue is one, and so is a share of a catalogue that others change meanwhile.
 pub trait Machine {
-    ghost after: { Self → Word → Seen → Self };
+    // From the first machine, the message leads to the second one, with these bytes as the reply.
+    ghost answers: { Self → Seen → Self → List ℕ → Type 0 };
 
-    ghost reply: { Self → Word → Seen → List ℕ };
+    // From the first machine, want of memory at the message leads to the second one.
+    ghost lacks: { Self → Seen → Self → Type 0 };
 
-    /// Acts on a message, and gives the bytes of the reply.
-    ///
-    /// `Err` is want of memory: the machine is then as before the message.
+    /// Acts on a message, and gives the bytes of the reply. `Err` is want of memory.
     fn answer(&mut self, message: &Message) -> Result<Vec<u8>, AllocError>
-        ensures ok { IfOk result (λ text. AnswersMessage after reply self.old self.new message.now text.items) }
-        ensures err { OnErr result (self.new ≡ self.old) };
+        ensures ok { IfOk result (λ text. answers self.old message.now self.new text.items) }
+        ensures err { OnErr result (lacks self.old message.now self.new) };
 }

@@ -1,18 +1,19 @@
 //! The loop of a connection.
 
-ghost use Rattle.std.specs.Prelude.{◌≡◌, ◌≢◌, ℕ, ◌<◌, ◌≤◌, [], List, OnOk, OnErr, IfOk, IfSome, length, codes, bytes_eq};
+ghost use Rattle.std.specs.Prelude.{◌≡◌, ◌≢◌, ℕ, ◌<◌, ◌≤◌, [], List, OnOk, OnErr, IfOk, IfSome, length};
 ghost use Rattle.cat_io.specs.Causes.{Rose};
 ghost use Rattle.cat_io.specs.Source.{Reads};
 ghost use Rattle.cat_loop.specs.Session.{IsAtMost};
 ghost use Rattle.cat_wire.specs.Items.{HasOneList};
-ghost use Rattle.cat_wire.specs.Items.Item.{message as message_item, refusal as refusal_item};
+ghost use Rattle.cat_wire.specs.Items.Item.{message as message_item};
+ghost use Rattle.cat_wire.specs.Runs.{AnswersItems};
 ghost use Rattle.cat_wire.specs.Connection.{step_by, Serves, ServesPart, Steps, StepsPart, Feeds, FeedsPart, Outcome, Transcript};
 
 use crate::machine::Machine;
 use crate::window::Window;
 use cat_http::fixed::{no_memory, refusal};
 use cat_http::head::blank_length;
-use cat_http::message::{Message, Next, Rule, next_message};
+use cat_http::message::{Message, Next, next_message};
 use cat_io::{Failed, ReadAnswer, Sink, Source, write_all};
 use std::alloc::{AllocError, Global};
 
@@ -70,8 +71,8 @@ fn serve<M: Machine, O: Sink>(
     message: &Message,
     sink: &mut O,
 ) -> Result<(), Failed>
-    ensures ok { OnOk result (Serves M.after M.reply (O.written sink.old) (O.written sink.new) machine.old (message_item message.now) machine.new) }
-    ensures err { OnErr result (ServesPart M.after M.reply (O.written sink.old) (O.written sink.new) machine.old (message_item message.now) machine.new) }
+    ensures ok { OnOk result (Serves M.answers M.lacks (O.written sink.old) (O.written sink.new) machine.old (message_item message.now) machine.new) }
+    ensures err { OnErr result (ServesPart M.answers M.lacks (O.written sink.old) (O.written sink.new) machine.old (message_item message.now) machine.new) }
     ensures later { O.faults sink.old ≤ O.faults sink.new }
     ensures cause { OnErr result (Rose (O.faults sink.old) (O.faults sink.new)) }
 {
@@ -97,8 +98,8 @@ fn serve_next<M: Machine, O: Sink>(
     bytes: &[u8],
     sink: &mut O,
 ) -> Result<Step, Failed>
-    ensures ok { IfOk result (λ step. Steps M.after M.reply (O.written sink.old) (O.written sink.new) machine.old machine.new bytes.now step) }
-    ensures err { OnErr result (StepsPart M.after M.reply (O.written sink.old) (O.written sink.new) machine.old machine.new bytes.now) }
+    ensures ok { IfOk result (λ step. Steps M.answers M.lacks (O.written sink.old) (O.written sink.new) machine.old machine.new bytes.now step) }
+    ensures err { OnErr result (StepsPart M.answers M.lacks (O.written sink.old) (O.written sink.new) machine.old machine.new bytes.now) }
     ensures later { O.faults sink.old ≤ O.faults sink.new }
     ensures cause { OnErr result (Rose (O.faults sink.old) (O.faults sink.new)) }
 {
@@ -126,8 +127,8 @@ fn feed<M: Machine, O: Sink>(
     bytes: &[u8],
     sink: &mut O,
 ) -> Result<Served, Failed>
-    ensures ok { IfOk result (λ served. Feeds M.after M.reply (O.written sink.old) (O.written sink.new) machine.old machine.new bytes.now served) }
-    ensures err { OnErr result (FeedsPart M.after M.reply (O.written sink.old) (O.written sink.new) machine.old machine.new bytes.now) }
+    ensures ok { IfOk result (λ served. Feeds M.answers M.lacks (O.written sink.old) (O.written sink.new) machine.old machine.new bytes.now served) }
+    ensures err { OnErr result (FeedsPart M.answers M.lacks (O.written sink.old) (O.written sink.new) machine.old machine.new bytes.now) }
     ensures later { O.faults sink.old ≤ O.faults sink.new }
     ensures cause { OnErr result (Rose (O.faults sink.old) (O.faults sink.new)) }
 {
@@ -165,7 +166,7 @@ fn answer_all<M: Machine, S: Source, O: Sink>(
 ) -> ConnEnd
     requires empty { window.old ≡ [] }
     requires room { PIECE ≤ length buffer.old }
-    ensures outcome { Outcome M.after M.reply result (S.left source.old) (S.left source.new)
+    ensures outcome { Outcome (AnswersItems M.answers M.lacks) result (S.left source.old) (S.left source.new)
         (O.written sink.old) (O.written sink.new) machine.old machine.new }
     ensures memory { result ≢ ConnEnd.NoMemory }
     ensures read_fault { result ≡ ConnEnd.ReadFault → Rose (S.faults source.old) (S.faults source.new) }
@@ -198,18 +199,19 @@ fn answer_all<M: Machine, S: Source, O: Sink>(
 /// Answers the messages of a source, each before the next is read, up to the one that ends the connection.
 ///
 /// A refused message and one that says so end the connection; a rest that is no whole message gets no reply. A message for
-/// which memory lacks is answered 507, and hasn't acted. All memory of the loop is taken at the start, for one message and one
-/// piece of input. A turn takes at least one byte, and the connection ends at 2^40 bytes.
+/// which memory lacks is answered 507: where it lacks for the message itself the machine stays, and else the machine says what
+/// it did. All memory of the loop is taken at the start, for one message and one piece of input. A turn takes at least one
+/// byte, and the connection ends at 2^40 bytes.
 pub fn connection<M: Machine, S: Source, O: Sink>(
     alloc: Global,
     machine: &mut M,
     source: &mut S,
     sink: &mut O,
 ) -> ConnEnd
-    ensures outcome { Outcome M.after M.reply result (S.left source.old) (S.left source.new)
+    ensures outcome { Outcome (AnswersItems M.answers M.lacks) result (S.left source.old) (S.left source.new)
         (O.written sink.old) (O.written sink.new) machine.old machine.new }
     ensures transcript { IfSome (S.left source.old)
-        (Transcript M.after M.reply result (O.written sink.old) (O.written sink.new) machine.old machine.new) }
+        (Transcript (AnswersItems M.answers M.lacks) result (O.written sink.old) (O.written sink.new) machine.old machine.new) }
 
     // A fault is told only where that end counted one in this call.
     ensures read_fault { result ≡ ConnEnd.ReadFault → Rose (S.faults source.old) (S.faults source.new) }

@@ -1,10 +1,7 @@
-ghost use Rattle.std.specs.Prelude.{◌≡◌, IfOk, codes};
-ghost use Rattle.cat_loop.specs.Word.{plain};
+ghost use Rattle.std.specs.Prelude.{◌≡◌};
 
 use crate::{ConnEnd, Machine, connection};
-use cat_http::body::{Bytes, Texts};
 use cat_http::message::Message;
-use cat_http::reply::{HttpReply, write_reply};
 use cat_io::{MemorySink, MemorySource};
 use std::alloc::{AllocError, Global};
 use std::test::Fail;
@@ -16,9 +13,9 @@ struct Echo {
 }
 
 impl Machine for Echo {
-    ghost after = { λ m _ _. m };
+    ghost answers = { λ old m new text. (new ≡ old) × (text ≡ m.path) };
 
-    ghost reply = { λ _ _ m. m.path };
+    ghost lacks = { λ old _ new. new ≡ old };
 
     fn answer(&mut self, message: &Message) -> Result<Vec<u8>, AllocError> {
         message.path.as_str().as_bytes().to_vec(self.alloc)

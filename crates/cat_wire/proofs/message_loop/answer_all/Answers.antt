@@ -9,7 +9,7 @@ use Rattle.cat_wire.proofs.message_loop.answer_all.Goals.{in-Read, in-End}
 
 pub loop-taken-init : goal.loop-taken-init
 loop-taken-init g c = record {
-  so_far = so_far_none g.M.Machine.after g.M.Machine.reply _ _ _ _ c.args.window.now c.requires.empty (Consumes_none _);
+  so_far = so_far_none g.M.Machine.answers g.M.Machine.lacks _ _ _ _ c.args.window.now c.requires.empty (Consumes_none _);
   bound = omega arith;
   read_later = omega arith;
   write_later = omega arith;
@@ -34,15 +34,15 @@ pub loop-taken-preserved : goal.loop-taken-preserved
 loop-taken-preserved g c =
     let piece = take c.match-read_piece.count c.read_piece.new.buffer in
     let is : c.bytes.result.now ≡ c.loop-taken.window ++ piece = c.bytes.ensures ∙ c.extend.ensures in
-    let fed = subst (λ s. Feeds g.M.Machine.after g.M.Machine.reply (g.O.Sink.written c.loop-taken.sink) (g.O.Sink.written c.feed.new.sink) c.loop-taken.machine c.feed.new.machine (c.loop-taken.window ++ piece) s) c.in-Ok-Open.field-0-is
-    (subst (λ l. Feeds g.M.Machine.after g.M.Machine.reply (g.O.Sink.written c.loop-taken.sink) (g.O.Sink.written c.feed.new.sink) c.loop-taken.machine c.feed.new.machine l c.in-Ok-Open.field-0) is c.in-Ok-Open.ensures.ok) in
+    let fed = subst (λ s. Feeds g.M.Machine.answers g.M.Machine.lacks (g.O.Sink.written c.loop-taken.sink) (g.O.Sink.written c.feed.new.sink) c.loop-taken.machine c.feed.new.machine (c.loop-taken.window ++ piece) s) c.in-Ok-Open.field-0-is
+    (subst (λ l. Feeds g.M.Machine.answers g.M.Machine.lacks (g.O.Sink.written c.loop-taken.sink) (g.O.Sink.written c.feed.new.sink) c.loop-taken.machine c.feed.new.machine l c.in-Ok-Open.field-0) is c.in-Ok-Open.ensures.ok) in
     let kept : c.skip.new.self ≡ drop c.in-Ok-Open.gone (c.loop-taken.window ++ piece) = c.skip.ensures ∙ ap (λ l. drop c.in-Ok-Open.gone l) c.extend.ensures in
     record {
       so_far = elim c.match-read_piece.branch [
         | in-Read w ↦
             let reads = subst (λ k. Consumes (g.S.Source.left c.loop-taken.source) (g.S.Source.left c.read_piece.new.source) (take k c.read_piece.new.buffer)) (sym w.count-is) w.in-Read.ensures.bytes.1 in
             let long : length piece ≡ c.match-read_piece.count = length-take-le c.match-read_piece.count c.read_piece.new.buffer (omega (arith, w.count-is, w.in-Read.ensures.bytes.0)) in
-            subst (λ k. SoFar g.M.Machine.after g.M.Machine.reply (g.S.Source.left c.args.source.now) (g.S.Source.left c.read_piece.new.source) (g.O.Sink.written c.args.sink.now) (g.O.Sink.written c.feed.new.sink) c.args.machine.now c.feed.new.machine c.skip.new.self (c.loop-taken.taken + k)) long
+            subst (λ k. SoFar g.M.Machine.answers g.M.Machine.lacks (g.S.Source.left c.args.source.now) (g.S.Source.left c.read_piece.new.source) (g.O.Sink.written c.args.sink.now) (g.O.Sink.written c.feed.new.sink) c.args.machine.now c.feed.new.machine c.skip.new.self (c.loop-taken.taken + k)) long
             (so_far_more _ _ _ _ _ _ _ _ _ _ _ c.loop-taken.taken c.in-Ok-Open.gone c.loop-taken.window c.skip.new.self piece c.loop-taken.invariant.so_far reads fed kept)
         | in-End w ↦ absurd (c.if-count-eq0.false w.count-is)
       ];
@@ -58,8 +58,8 @@ pub returns-in-Ok-Closed-clause-outcome : goal.returns-in-Ok-Closed-clause-outco
 returns-in-Ok-Closed-clause-outcome g c =
     let piece = take c.match-read_piece.count c.read_piece.new.buffer in
     let is : c.bytes.result.now ≡ c.loop-taken.window ++ piece = c.bytes.ensures ∙ c.extend.ensures in
-    let fed = subst (λ s. Feeds g.M.Machine.after g.M.Machine.reply (g.O.Sink.written c.loop-taken.sink) (g.O.Sink.written c.feed.new.sink) c.loop-taken.machine c.feed.new.machine (c.loop-taken.window ++ piece) s) c.in-Ok-Closed.field-0-is
-    (subst (λ l. Feeds g.M.Machine.after g.M.Machine.reply (g.O.Sink.written c.loop-taken.sink) (g.O.Sink.written c.feed.new.sink) c.loop-taken.machine c.feed.new.machine l c.in-Ok-Closed.field-0) is c.in-Ok-Closed.ensures.ok) in
+    let fed = subst (λ s. Feeds g.M.Machine.answers g.M.Machine.lacks (g.O.Sink.written c.loop-taken.sink) (g.O.Sink.written c.feed.new.sink) c.loop-taken.machine c.feed.new.machine (c.loop-taken.window ++ piece) s) c.in-Ok-Closed.field-0-is
+    (subst (λ l. Feeds g.M.Machine.answers g.M.Machine.lacks (g.O.Sink.written c.loop-taken.sink) (g.O.Sink.written c.feed.new.sink) c.loop-taken.machine c.feed.new.machine l c.in-Ok-Closed.field-0) is c.in-Ok-Closed.ensures.ok) in
     elim c.match-read_piece.branch [
       | in-Read w ↦
           let reads = subst (λ k. Consumes (g.S.Source.left c.loop-taken.source) (g.S.Source.left c.read_piece.new.source) (take k c.read_piece.new.buffer)) (sym w.count-is) w.in-Read.ensures.bytes.1 in
@@ -71,7 +71,7 @@ pub returns-in-Err-clause-outcome : goal.returns-in-Err-clause-outcome
 returns-in-Err-clause-outcome g c =
     let piece = take c.match-read_piece.count c.read_piece.new.buffer in
     let is : c.bytes.result.now ≡ c.loop-taken.window ++ piece = c.bytes.ensures ∙ c.extend.ensures in
-    let part = subst (λ l. FeedsPart g.M.Machine.after g.M.Machine.reply (g.O.Sink.written c.loop-taken.sink) (g.O.Sink.written c.feed.new.sink) c.loop-taken.machine c.feed.new.machine l) is c.in-Err.ensures.err in
+    let part = subst (λ l. FeedsPart g.M.Machine.answers g.M.Machine.lacks (g.O.Sink.written c.loop-taken.sink) (g.O.Sink.written c.feed.new.sink) c.loop-taken.machine c.feed.new.machine l) is c.in-Err.ensures.err in
     elim c.match-read_piece.branch [
       | in-Read w ↦
           let reads = subst (λ k. Consumes (g.S.Source.left c.loop-taken.source) (g.S.Source.left c.read_piece.new.source) (take k c.read_piece.new.buffer)) (sym w.count-is) w.in-Read.ensures.bytes.1 in

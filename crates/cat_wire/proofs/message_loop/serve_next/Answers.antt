@@ -1,10 +1,8 @@
-use Rattle.std.proofs.Common.{◌∙◌, sym, subst, refl}
+use Rattle.std.proofs.Common.{◌∙◌, sym, subst, refl, inl, inr}
 use Rattle.cat_http.specs.Message.{Stands}
 use Rattle.cat_http.proofs.Stability.{used-within}
-use Rattle.cat_loop.specs.Word.{plain, memory}
 use Rattle.cat_wire.specs.Items.{message, refusal}
 use Rattle.cat_wire.proofs.Fronts.{refused_is}
-use Rattle.cat_wire.proofs.Replying.{memory_after, refusal_reply, refusal_after}
 use Rattle.cat_wire.proofs.Connections.{serves, serves_part, steps, lack_reply}
 use Rattle.cat_wire.proofs.message_loop.serve_next.Goals as goal
 
@@ -27,7 +25,7 @@ returns-in-Ok-write_all-clause-ok g c =
       0,
       refused_is c.args.bytes.now _ rule stands,
       refl,
-      serves _ _ _ _ _ _ plain (refusal rule) _ (c.refusal.ensures ∙ sym (refusal_reply g.M.Machine.reply c.args.machine.now rule)) (sym (refusal_after g.M.Machine.after c.args.machine.now rule)) c.in-Ok-write_all.ensures.whole,
+      serves g.M.Machine.answers g.M.Machine.lacks _ _ _ _ (refusal rule) _ _ c.refusal.ensures (refl, refl) c.in-Ok-write_all.ensures.whole,
     )
 
 pub returns-in-Ok-Refused-clause-err : goal.returns-in-Ok-Refused-clause-err
@@ -37,7 +35,7 @@ returns-in-Ok-Refused-clause-err g c =
       refusal rule,
       0,
       refused_is c.args.bytes.now _ rule stands,
-      serves_part _ _ _ _ _ _ plain (refusal rule) _ (c.refusal.ensures ∙ sym (refusal_reply g.M.Machine.reply c.args.machine.now rule)) (sym (refusal_after g.M.Machine.after c.args.machine.now rule)) c.in-Err-write_all.ensures.front,
+      serves_part g.M.Machine.answers g.M.Machine.lacks _ _ _ _ (refusal rule) _ _ c.refusal.ensures (refl, refl) c.in-Err-write_all.ensures.front,
     )
 
 pub returns-in-Ok-write_all-2-clause-ok : goal.returns-in-Ok-write_all-2-clause-ok
@@ -45,7 +43,7 @@ returns-in-Ok-write_all-2-clause-ok g c =
     let lack = c.in-Err.ensures.lack in
     let inside = used-within c.args.bytes.now lack.0 c.in-Err.lack.used lack.1 in
     rw c.step_after-in-Ok-write_all-2.ensures (steps _ _ _ _ _ _ c.args.bytes.now (message lack.0) c.in-Err.lack.last c.in-Err.lack.used (sym lack.2) lack.1 inside.0 inside.1
-    (serves _ _ _ _ _ _ memory (message lack.0) _ (c.no_memory.ensures ∙ lack_reply g.M.Machine.reply c.args.machine.now lack.0 c.in-Err.lack.last c.in-Err.lack.bare lack.2 lack.3) (sym (memory_after g.M.Machine.after c.args.machine.now lack.0)) c.in-Ok-write_all-2.ensures.whole))
+    (serves g.M.Machine.answers g.M.Machine.lacks _ _ c.args.machine.now c.args.machine.now (message lack.0) _ _ (c.no_memory.ensures ∙ lack_reply lack.0 c.in-Err.lack.last c.in-Err.lack.bare lack.2 lack.3) (inr (refl, inl refl)) c.in-Ok-write_all-2.ensures.whole))
 
 pub returns-clause-err : goal.returns-clause-err
 returns-clause-err g c =
@@ -53,5 +51,5 @@ returns-clause-err g c =
       message lack.0,
       c.in-Err.lack.used,
       lack.1,
-      serves_part _ _ _ _ _ _ memory (message lack.0) _ (c.no_memory.ensures ∙ lack_reply g.M.Machine.reply c.args.machine.now lack.0 c.in-Err.lack.last c.in-Err.lack.bare lack.2 lack.3) (sym (memory_after g.M.Machine.after c.args.machine.now lack.0)) c.in-Err-write_all-2.ensures.front,
+      serves_part g.M.Machine.answers g.M.Machine.lacks _ _ c.args.machine.now c.args.machine.now (message lack.0) _ _ (c.no_memory.ensures ∙ lack_reply lack.0 c.in-Err.lack.last c.in-Err.lack.bare lack.2 lack.3) (inr (refl, inl refl)) c.in-Err-write_all-2.ensures.front,
     )

@@ -1,0 +1,5 @@
+pub mod Standing
+pub mod Present
+pub mod Leading
+pub mod Keeping
+pub mod Sharing

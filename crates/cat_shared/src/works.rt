@@ -1,0 +1,82 @@
+//! What a share of a book does at its turn.
+ghost use Rattle.std.specs.Prelude.{◌≡◌, ◌≢◌, ◌⊎◌, ◌++◌, List, ℕ};
+ghost use Rattle.cat_desk.specs.Asks.{AsksOnce};
+ghost use Rattle.cat_desk.specs.Deed.{deed_of};
+ghost use Rattle.cat_desk.specs.declared.command.Asked.TheVariants as asked;
+ghost use Rattle.cat_fed.specs.Told.{Tells};
+ghost use Rattle.cat_fed.specs.declared.desk.FeedAnswer.TheVariants as told;
+ghost use Rattle.cat_shared.specs.Book.{Does, Lacks};
+
+use crate::book::{Book, Named};
+use crate::work::Work;
+use cat_core::catalogue::{Done, Stitched};
+use cat_desk::command::{Asked, Command, Reply};
+use cat_fed::desk::FeedAnswer;
+use cat_feed::change::Since;
+use cat_hold::layers::Layers;
+use cat_io::Clock;
+use cat_query::ask::Ask;
+use std::alloc::Global;
+
+/// A command is done under the number of a pass.
+#[derive(Drop)]
+pub(crate) struct Acting<'b, L: Layers> {
+    pub alloc: Global,
+    pub number: u64,
+    pub command: Command<Done<'b, L>, Stitched<'b, L>>,
+}
+
+impl<'b, L: Layers, C: Clock, N: Named> Work<Book<L, C, N>> for Acting<'b, L> {
+    type Answer = Reply;
+
+    ghost does = { λ work before after reply. Does L.rules work.number (C.moment after.fed.timed.clock) (deed_of work.command) before.fed.timed.catalogue after.fed.timed.catalogue before.journal.items after.journal.items reply
+        ⊎ Lacks (deed_of work.command) before.fed after.fed before.journal.items after.journal.items reply };
+
+    fn on(self, book: &mut Book<L, C, N>) -> Reply {
+        book.act(self.alloc, self.number, self.command)
+    }
+}
+
+/// A question is answered; the text so far is handed over and given back.
+#[derive(Drop)]
+pub(crate) struct Asking<'c> {
+    pub alloc: Global,
+    pub ask: &'c Ask,
+    pub out: Vec<u8>,
+}
+
+impl<'c, L: Layers, C: Clock, N: Named> Work<Book<L, C, N>> for Asking<'c> {
+    type Answer = (Asked, Vec<u8>);
+
+    ghost does = { λ work before after answer. (text : List ℕ) × (answer.1.items ≡ work.out.items ++ text)
+        × AsksOnce (C.moment after.fed.timed.clock) (C.readings before.fed.timed.clock) (C.readings after.fed.timed.clock) work.ask.now before.fed.timed.catalogue after.fed.timed.catalogue answer.0 text
+        × (answer.0 ≢ asked.Written → answer.1.items ≡ work.out.items) × (after.journal.items ≡ before.journal.items) };
+
+    fn on(self, book: &mut Book<L, C, N>) -> (Asked, Vec<u8>) {
+        let mut out = self.out;
+        let asked = book.ask(self.alloc, self.ask, &mut out);
+        (asked, out)
+    }
+}
+
+/// Changes are told; the text so far is handed over and given back.
+#[derive(Drop)]
+pub(crate) struct Telling {
+    pub alloc: Global,
+    pub since: Option<Since>,
+    pub out: Vec<u8>,
+}
+
+impl<L: Layers, C: Clock, N: Named> Work<Book<L, C, N>> for Telling {
+    type Answer = (FeedAnswer, Vec<u8>);
+
+    ghost does = { λ work before after answer. (text : List ℕ) × (answer.1.items ≡ work.out.items ++ text)
+        × Tells before.fed.timed.catalogue.state.documents work.since before.fed.feed after.fed.feed answer.0 text
+        × (answer.0 ≢ told.Written → answer.1.items ≡ work.out.items) × (after.journal.items ≡ before.journal.items) × (after.fed.timed ≡ before.fed.timed) };
+
+    fn on(self, book: &mut Book<L, C, N>) -> (FeedAnswer, Vec<u8>) {
+        let mut out = self.out;
+        let told = book.changes(self.alloc, self.since, &mut out);
+        (told, out)
+    }
+}
