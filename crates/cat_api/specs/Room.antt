@@ -41,6 +41,7 @@ IsBriefTo (Act d k) r = IsBrief r
 IsBriefTo (Ask question) r = ⊤
 IsBriefTo (Tell since) r = ⊤
 
+-- The reply to a request for a deed is brief; of other requests, and of refused ones, nothing is said.
 abbrev pub IsBriefBy : Result Request Refusal → HttpReply → Type 0
 IsBriefBy (Ok request) r = IsBriefTo (operation request) r
 IsBriefBy (Err refusal) r = ⊤

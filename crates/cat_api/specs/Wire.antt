@@ -47,12 +47,14 @@ told_after (Act d k) n feed = feed
 told_after (Ask question) n feed = feed
 told_after (Tell since) n feed = feed_after n.documents since feed
 
+-- The catalogue and its feed after an operation with its word.
 abbrev pub after_operation : Rules → Word → Operation → Wired → Wired
 after_operation rules word o w = record {
   catalogue = record w.catalogue { state = state_after rules w.catalogue.settings word o w.catalogue.state };
   feed = told_after o w.catalogue.state w.feed;
 }
 
+-- The catalogue and its feed after what a message asks for, with its word; a refused message leaves them as they were.
 abbrev pub after_requested : Rules → Word → Result Request Refusal → Wired → Wired
 after_requested rules word (Ok request) w = after_operation rules word (operation request) w
 after_requested rules word (Err refusal) w = w
@@ -69,6 +71,7 @@ operation_answer rules word (Act d k) w = act_answer k (deed_reply rules w.catal
 operation_answer rules word (Ask question) w = ask_answer (ask_text question 0 w.catalogue.state)
 operation_answer rules word (Tell since) w = changes_answer (asked w.catalogue.state.documents since w.feed)
 
+-- The answer to what a message asks for, with its word; to a refused message it is the refusal.
 abbrev pub requested_answer : Rules → Word → Result Request Refusal → Wired → Answer
 requested_answer rules word (Ok request) w = operation_answer rules word (operation request) w
 requested_answer rules word (Err refusal) w = Refused refusal

@@ -33,6 +33,7 @@ json_fault tree.NoMemory = fault.NoMemory
 
 -- ---- changes
 
+-- The reference that was read, or the fault that the field `changes` is of another form.
 abbrev pub named : Result Text RefFault → Result Text ChangesFault
 named (Ok r) = Ok r
 named (Err e) = Err (fault.Shape field.Changes)
@@ -61,11 +62,13 @@ list_by (Some (words s)) = Err (fault.Shape field.Changes)
 list_by (Some (list ds)) = changes_from 0 ds
 list_by (Some (dict ms)) = Err (fault.Shape field.Changes)
 
+-- The changes of the field `changes` of a tree, numbered from 1, or the fault of that field.
 abbrev pub list_in : Data → Result (List Change) ChangesFault
 list_in d = list_by (child_of (codes "changes") d)
 
 -- ---- places
 
+-- The place that a text is, where there is a text and it is one.
 abbrev pub place_in : Option Text → Option Since
 place_in None = None
 place_in (Some text) = since_of text
@@ -74,6 +77,7 @@ place_in (Some text) = since_of text
 abbrev pub place_at : Option Data → Option Since
 place_at d = place_in (text_at d)
 
+-- The place that was read, as one that is given, or the fault that the field `from` is of another form.
 abbrev pub given : Option Since → Result (Option Since) ChangesFault
 given None = Err (fault.Shape field.From)
 given (Some since) = Ok (Some since)
@@ -88,9 +92,11 @@ from_by (Some (words s)) = given (since_of s)
 from_by (Some (list ds)) = Err (fault.Shape field.From)
 from_by (Some (dict ms)) = Err (fault.Shape field.From)
 
+-- The place of the field `from` of a tree, none where it is null, or the fault of that field, which may not be missing.
 abbrev pub from_in : Data → Result (Option Since) ChangesFault
 from_in d = from_by (child_of (codes "from") d)
 
+-- The place of the field `to` of a tree, or the fault of that field.
 abbrev pub to_in : Data → Result Since ChangesFault
 to_in d = ok_or (place_at (child_of (codes "to") d)) (fault.Shape field.To)
 
@@ -101,6 +107,7 @@ abbrev pub changes_in : Data → Result Changes ChangesFault
 changes_in d =
     and_then (list_in d) (λ cs. and_then (from_in d) (λ f. and_then (to_in d) (λ t. Ok (record { from = f; to = t; list = cs }))))
 
+-- The changes that the tree read is, or why it is none, or the fault of bytes that have no tree.
 abbrev pub changes_read : Result Data TreeFault → Result Changes ChangesFault
 changes_read (Ok d) = changes_in d
 changes_read (Err e) = Err (json_fault e)

@@ -16,6 +16,7 @@ abbrev pub set_of : Data → Option Data → Data
 set_of r None = dict (member (codes "entityRef") r no_members)
 set_of r (Some d) = dict (member (codes "entityRef") r (member (codes "set") d no_members))
 
+-- A change as a tree: its reference, with the document that is set, if one is; its number is not written.
 abbrev pub change_data : Change → Data
 change_data c = set_of (words c.reference) c.set
 

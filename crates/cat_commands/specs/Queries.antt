@@ -29,6 +29,7 @@ value_in (words s) = Some (Some s)
 value_in (list ds) = None
 value_in (dict ms) = None
 
+-- The text, where the reference that was read from it is that same text.
 abbrev pub itself : Text → Result Text RefFault → Option Text
 itself text (Ok r) = if bytes_eq r text then Some text else None
 itself text (Err fault) = None
@@ -42,6 +43,7 @@ reference_in (words s) = itself s (parsed s None (codes "default"))
 reference_in (list ds) = None
 reference_in (dict ms) = None
 
+-- The cursor of a value, which may be null, and a reference, where both were read.
 abbrev pub cursor_with : Option (Option Text) → Option Text → Option Cursor
 cursor_with None reference = None
 cursor_with (Some value) None = None
@@ -68,10 +70,12 @@ abbrev pub spelled : Text → Option Cursor → Option Cursor
 spelled text None = None
 spelled text (Some c) = if bytes_eq (cursor_text c) text then Some c else None
 
+-- The cursor that the tree read is, where the text is what is written for it; none without a tree.
 abbrev pub cursor_of_tree : Text → Result Data TreeFault → Option Cursor
 cursor_of_tree text (Ok d) = spelled text (cursor_in d)
 cursor_of_tree text (Err fault) = None
 
+-- The cursor of a text, by the bytes that it was decoded to; none where it has none.
 abbrev pub cursor_of_bytes : Text → Result (List ℕ) DecodeError → Option Cursor
 cursor_of_bytes text (Ok bytes) = cursor_of_tree text (tree_reading bytes)
 cursor_of_bytes text (Err fault) = None
@@ -80,6 +84,7 @@ cursor_of_bytes text (Err fault) = None
 unfoldable pub cursor_of : Text → Option Cursor
 cursor_of text = cursor_of_bytes text (decode_of url_safe_no_pad text)
 
+-- A cursor that was read, or the fault of a text that is none.
 abbrev pub one_cursor : Option Cursor → Result (Option Cursor) QueryFault
 one_cursor None = Err BadCursor
 one_cursor (Some c) = Ok (Some c)
@@ -107,10 +112,12 @@ limited a c true true l m = Ok (record {
 limited a c true false l m = Err BadLimit
 limited a c false most l m = Err BadLimit
 
+-- The query of what is asked and of a cursor, if there is one, or the first fault of the cursor and the limit.
 abbrev pub with_cursor : Asked → Result (Option Cursor) QueryFault → Result Query QueryFault
 with_cursor a (Ok c) = limited a c (nat_le 1 a.limit) (nat_le a.limit 1000) refl refl
 with_cursor a (Err fault) = Err fault
 
+-- The query of what the parameters ask and of their `cursor`, or the first fault; that of what is asked comes first.
 abbrev pub query_with : List Parameter → Result Asked QueryFault → Result Query QueryFault
 query_with ps (Ok a) = with_cursor a (cursor_among (values_named (codes "cursor") ps))
 query_with ps (Err fault) = Err fault

@@ -14,6 +14,7 @@ use Rattle.cat_commands.specs.Faults.{input_fault}
 use Rattle.cat_commands.specs.declared.fault.LineFault.{LineFault}
 use Rattle.cat_commands.specs.declared.fault.LineFault.TheVariants.{Reference}
 
+-- The reference that was read, or the fault that the text at place i names no entity.
 abbrev pub named_at : ℕ → Result Text RefFault → Result Text LineFault
 named_at i (Ok r) = Ok r
 named_at i (Err fault) = Err (Reference i)
@@ -26,6 +27,7 @@ reference_at i text = named_at i (parsed text None (codes "default"))
 abbrev pub references : List Text → Result (List Text) LineFault
 references texts = each_from reference_at 0 texts
 
+-- The references that the texts read name, or the fault of the first that names none, or of a body that has no such texts.
 abbrev pub references_by : Result (List Text) InputFault → Result (List Text) LineFault
 references_by (Ok texts) = references texts
 references_by (Err fault) = Err (input_fault fault)
@@ -34,6 +36,7 @@ references_by (Err fault) = Err (input_fault fault)
 abbrev pub references_in : Data → Result (List Text) LineFault
 references_in d = references_by (texts_in EntityRefs (Some d))
 
+-- The references of the tree that was read, or the fault of the line where its body has no tree.
 abbrev pub references_read : Result Data TreeFault → Result (List Text) LineFault
 references_read (Ok d) = references_in d
 references_read (Err fault) = Err (input_fault (json_fault fault))

@@ -19,6 +19,7 @@ status_of TransferCoding = 501
 status_of Length = 400
 status_of Body = 413
 
+-- The bytes are refused for breaking this rule, with its status.
 abbrev pub refused : Rule → Next
 refused rule = Refused (status_of rule) rule
 
@@ -50,6 +51,7 @@ framed (Err rule) p after used = refused rule
 framed (Ok n) p after used =
     if nat_le n (length after) then Whole (message_of p (take n after)) (used + n) else More
 
+-- What a head of these parts and the bytes after it are: refused by the first check that fails, or else a message once its body is there.
 abbrev pub answered : Parts → List ℕ → ℕ → Next
 answered p after used = framed (check p.minor p.fields) p after used
 

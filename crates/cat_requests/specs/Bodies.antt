@@ -30,6 +30,7 @@ with_tree (Err fault) next = Err (input_refusal (json_fault fault))
 
 -- ---- one reference
 
+-- The reference that was read, or the refusal that the text at place i names no entity.
 abbrev pub named_at : ℕ → Result Text RefFault → Result Text Refusal
 named_at i (Ok r) = Ok r
 named_at i (Err fault) = Err (Reference i)
@@ -38,6 +39,7 @@ named_at i (Err fault) = Err (Reference i)
 abbrev pub reference_at : ℕ → Text → Result Text Refusal
 reference_at i text = named_at i (parsed text None (codes "default"))
 
+-- The reference that the text under `entityRef` names, or the refusal of one that names none, or of a body without such a text.
 abbrev pub reference_by : Option Text → Result Text Refusal
 reference_by None = Err (input_refusal (Shape EntityRef))
 reference_by (Some text) = reference_at 0 text
@@ -61,6 +63,7 @@ abbrev pub fields_by : Option Data → Result (List Text) InputFault
 fields_by None = Ok []
 fields_by (Some d) = texts_in Fields (Some d)
 
+-- The question for the entities of these references, with the paths of the fields to show, or the refusal of the references.
 abbrev pub many_by : List (List Text) → Result (List Text) Refusal → Result Ask Refusal
 many_by fields (Ok references) = Ok (Many references fields)
 many_by fields (Err refusal) = Err refusal

@@ -32,6 +32,7 @@ fixed_text Failed = codes "/failed"
 fixed_text Orphans = codes "/orphans"
 fixed_text Changes = codes "/changes"
 
+-- All fixed paths.
 abbrev pub all_fixed : List Fixed
 all_fixed = Entities ∷ (ByQuery ∷ (ByRefs ∷ (EntityFacets ∷ (Refresh ∷ (Shelf ∷ (Settle ∷ (Conflicts ∷ (Failed ∷ (Orphans ∷ (Changes ∷ []))))))))))
 
@@ -46,6 +47,7 @@ abbrev pub halves_by : Option (List ℕ) × List ℕ → Option (List ℕ × Lis
 halves_by (None, s) = None
 halves_by (Some first, rest) = Some (first, rest)
 
+-- The two parts of a text that its first slash parts, if it has one.
 abbrev pub halves : List ℕ → Option (List ℕ × List ℕ)
 halves s = halves_by (cut 47 s)
 
@@ -77,10 +79,12 @@ abbrev pub name_by : List ℕ → List ℕ → List ℕ → Option (List ℕ × 
 name_by kind namespace name None = Some (of_name kind namespace name)
 name_by kind namespace name (Some parts) = None
 
+-- The pieces of a kind, a namespace and a name, where the latter two are there and the name has no slash.
 abbrev pub namespace_by : List ℕ → Option (List ℕ × List ℕ) → Option Pieces
 namespace_by kind None = None
 namespace_by kind (Some (namespace, name)) = name_by kind namespace name (halves name)
 
+-- The pieces of a kind and what follows its slash, where that is a namespace and a name with a slash between them and no other.
 abbrev pub kind_by : Option (List ℕ × List ℕ) → Option Pieces
 kind_by None = None
 kind_by (Some (kind, rest)) = namespace_by kind (halves rest)
@@ -89,10 +93,12 @@ kind_by (Some (kind, rest)) = namespace_by kind (halves rest)
 abbrev pub form_named : List ℕ → Option Form
 form_named s = if bytes_eq s (codes "full") then Some Full else (if bytes_eq s (codes "delta") then Some Delta else None)
 
+-- The pieces of a provider and the form of its mutation, where there is such a form.
 abbrev pub mutation_by : List ℕ → Option Form → Option Pieces
 mutation_by provider None = None
 mutation_by provider (Some form) = Some (of_mutation provider form)
 
+-- The pieces of a provider and what follows its slash, where that names a form.
 abbrev pub provider_by : Option (List ℕ × List ℕ) → Option Pieces
 provider_by None = None
 provider_by (Some (provider, form)) = mutation_by provider (form_named form)
@@ -118,6 +124,7 @@ named_by (of_name kind namespace name) =
     with_piece (decoded kind) (λ k. with_piece (decoded namespace) (λ s. with_piece (decoded name) (λ n. Ok (resource.ByName k s n))))
 named_by (of_mutation provider form) = with_piece (decoded provider) (λ p. Ok (resource.Mutation p form))
 
+-- A fixed path, or else what a path with pieces names once they are decoded; where it is neither, the refusal of the route.
 abbrev pub resource_by : Option Fixed → Option Pieces → Result Resource Refusal
 resource_by (Some f) p = Ok (resource.Fixed f)
 resource_by None None = Err Route

@@ -102,6 +102,7 @@ words_of NoMemory = codes "memory" ∷ []
 
 -- ---- the faults of what is read
 
+-- The refusal of a body that isn't what is asked for; want of memory is refused as such.
 abbrev pub input_refusal : InputFault → Refusal
 input_refusal (input.Json fault) = Input (input.Json fault)
 input_refusal (input.Shape place) = Input (input.Shape place)
@@ -111,6 +112,7 @@ input_refusal (input.NoRef i fault) = Input (input.NoRef i fault)
 input_refusal (input.Duplicate i) = Input (input.Duplicate i)
 input_refusal input.NoMemory = NoMemory
 
+-- The refusal of parameters that are no query; want of memory is refused as such.
 abbrev pub query_refusal : QueryFault → Refusal
 query_refusal (query.Filter i j) = Query (query.Filter i j)
 query_refusal query.BadOrder = Query query.BadOrder

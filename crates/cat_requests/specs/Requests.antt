@@ -52,6 +52,7 @@ abbrev pub on : {A B : Type 0} → (A → B) → Result A Refusal → Result B R
 on say (Ok x) = Ok (say x)
 on say (Err refusal) = Err refusal
 
+-- The query that was read, or the refusal for its fault.
 abbrev pub as_query : Result Query QueryFault → Result Query Refusal
 as_query (Ok q) = Ok q
 as_query (Err fault) = Err (query_refusal fault)
@@ -62,6 +63,7 @@ query m = as_query (query_of m.query)
 
 -- ---- entities
 
+-- What was read, or the refusal that there is no entity so named.
 abbrev pub entity_by : {A : Type 0} → Option A → Result A Refusal
 entity_by None = Err Entity
 entity_by (Some x) = Ok x
@@ -70,6 +72,7 @@ entity_by (Some x) = Ok x
 abbrev pub number : Words → Result ℕ Refusal
 number uid = entity_by (number_of_uid uid)
 
+-- The reference that was read, or the refusal that there is no entity so named.
 abbrev pub entity_named : Result Words RefFault → Result Words Refusal
 entity_named (Ok r) = Ok r
 entity_named (Err fault) = Err Entity
@@ -84,6 +87,7 @@ entity kind namespace name = entity_named (parsed (full_name kind namespace name
 
 -- ---- the shelf
 
+-- The only name among these, where it is a shelf name; otherwise the refusal of the name.
 abbrev pub name_among : List Words → Result Words Refusal
 name_among [] = Err Name
 name_among (name ∷ []) = if is_shelf_name name then Ok name else Err Name
@@ -93,6 +97,7 @@ name_among (name ∷ other ∷ names) = Err Name
 abbrev pub shelf_name : Message → Result Words Refusal
 shelf_name m = name_among (values_named (codes "name") (parameters_of m.query))
 
+-- The request that puts a text on the shelf under this name, or the refusal of a body that is no text.
 abbrev pub put_text : Words → Option Words → Result Request Refusal
 put_text name None = Err Text
 put_text name (Some text) = Ok (request.ShelfPut name text)
@@ -104,6 +109,7 @@ put_by body (Err refusal) = Err refusal
 
 -- ---- mutations
 
+-- The request for a mutation of this provider, or the refusal that says why the body is none.
 abbrev pub mutated : Words → Result Mutation InputFault → Result Request Refusal
 mutated provider (Ok m) = Ok (request.Mutate provider m)
 mutated provider (Err fault) = Err (input_refusal fault)
@@ -114,10 +120,12 @@ mutate provider form m = if is_name provider then mutated provider (mutation_of 
 
 -- ---- changes
 
+-- The place that was read, or the refusal of a text that is no place.
 abbrev pub place_by : Option Since → Result (Option Since) Refusal
 place_by None = Err Place
 place_by (Some since) = Ok (Some since)
 
+-- No place without texts, the place that the only text is, or the refusal of a text that is no place, or of several texts.
 abbrev pub place_among : List Words → Result (Option Since) Refusal
 place_among [] = Ok None
 place_among (text ∷ []) = place_by (since_of text)
@@ -202,12 +210,14 @@ fixed_by fixed.Failed v m = asked_by v (question fixed.Failed m)
 fixed_by fixed.Orphans v m = asked_by v (question fixed.Orphans m)
 fixed_by fixed.Changes v m = with_method (reads v) (on request.Changes (place_of m))
 
+-- What a message asks of a resource by this method, or the first refusal that holds.
 abbrev pub resource_asked : Resource → Option Verb → Message → Result Request Refusal
 resource_asked (resource.Fixed f) v m = fixed_by f v m
 resource_asked (resource.ByUid uid) v m = numbered_by v uid
 resource_asked (resource.ByName kind namespace name) v m = asked_by v (on ask.Get (entity kind namespace name))
 resource_asked (resource.Mutation provider form) v m = posted_by v (mutate provider form m)
 
+-- What a message asks of the resource that its path names, or the refusal of the path.
 abbrev pub requested : Result Resource Refusal → Message → Result Request Refusal
 requested (Ok r) m = resource_asked r (verb_of m.method) m
 requested (Err refusal) m = Err refusal

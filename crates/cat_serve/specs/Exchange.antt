@@ -9,5 +9,6 @@ pub record Exchange : Type 0 where
   pub written : Option (List ℕ)
   pub written_after : Option (List ℕ)
 
+-- The exchange with this left before and after, and this written before and after.
 abbrev pub exchange : Option (List ℕ) → Option (List ℕ) → Option (List ℕ) → Option (List ℕ) → Exchange
 exchange left left_after written written_after = record { left = left; left_after = left_after; written = written; written_after = written_after }

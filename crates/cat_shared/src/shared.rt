@@ -20,6 +20,7 @@ use std::mem;
 use std::sync::Wait;
 
 /// A share of a book: a pass to its turns, which each command and each question waits for.
+#[derive(Drop)]
 pub struct SharedDesk<'a, L: Layers, C: Clock, N: Named, R: Wait> {
     rt: &'a R,
     turns: &'a Turns<Book<L, C, N>>,

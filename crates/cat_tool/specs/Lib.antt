@@ -1,4 +1,6 @@
+pub mod Options
 pub mod Words
 pub mod Status
 pub mod Sessions
 pub mod Wires
+pub mod Mirrors

@@ -15,9 +15,9 @@ use std::alloc::Global;
 /// What is written where the words are no command.
 pub const USAGE: &[u8] = b"usage: catalogue session|wire|serve|sample\n";
 
-/// The status with which the program ends: 0 where all input was read and answered, 2 where the words are no command, 3 and 4
-/// where the source and the sink failed, 9 where memory lacked before the first line or message or for a sample, 10 where 2^40 bytes
-/// were taken.
+/// The status with which the program ends: 0 where all input was read and answered, or where the doors have closed, 2 where the words
+/// are no command, 3 and 4 where the source and the sink failed, 7 where the doors failed, 9 where memory lacked, before the first line,
+/// message or connection, at any line of a mirror, or for a sample, 10 where 2^40 bytes were taken.
 #[derive(Clone, Copy, Debug, PartialEq, Eq)]
 pub struct Status(pub u8);
 

@@ -1,7 +1,7 @@
 ghost use Rattle.std.specs.Prelude.{◌≡◌, ◌∷◌, [], ◌++◌, IfOk};
 
 use crate::command::USAGE;
-use crate::{Command, Status, answer_lines, command_of, usage};
+use crate::{Command, Serving, Status, answer_lines, command_of, usage};
 use cat_io::{MemorySink, MemorySource};
 use cat_loop::Machine;
 use cat_model::types::OrphanRule;
@@ -59,10 +59,17 @@ fn ends_with_a_status(rt: HostRuntime) -> Result<(), Fail> {
     Ok(())
 }
 
+/// How a server runs without options.
+const USUAL: Serving = Serving {
+    orphans: OrphanRule::Keep,
+    workers: 2,
+    connections: 4,
+};
+
 #[test]
 fn words_are_commands(rt: HostRuntime) -> Result<(), Fail> {
     let alloc = rt.alloc();
-    let cases: [(&[&str], Option<Command>); 19] = [
+    let cases: [(&[&str], Option<Command>); 36] = [
         (&["session"], Some(Command::Session(OrphanRule::Keep))),
         (&["wire"], Some(Command::Wire(OrphanRule::Keep))),
         (
@@ -89,7 +96,47 @@ fn words_are_commands(rt: HostRuntime) -> Result<(), Fail> {
         (&["sample", "+1", "5"], None),
         (&["sample", "1"], None),
         (&["session", "session"], None),
+        (&["mirror"], Some(Command::Mirror)),
+        (&["mirror", "x"], None),
+        (&["mirror", "--orphans", "keep"], None),
         (&["serve"], None),
+        (&["serve", "--workers"], None),
+        (&["serve", "--workers", "2"], None),
+        (&["serve", "[::]:80"], Some(Command::Serve(USUAL))),
+        (
+            &["serve", "a:1", "--workers", "16", "--connections", "1"],
+            Some(Command::Serve(Serving {
+                workers: 16,
+                connections: 1,
+                ..USUAL
+            })),
+        ),
+        (
+            &[
+                "serve",
+                "a:1",
+                "--connections",
+                "08",
+                "--orphans",
+                "delete",
+                "--workers",
+                "1",
+            ],
+            Some(Command::Serve(Serving {
+                orphans: OrphanRule::Delete,
+                workers: 1,
+                connections: 8,
+            })),
+        ),
+        (&["serve", "a:1", "--workers", "0"], None),
+        (&["serve", "a:1", "--workers", "17"], None),
+        (&["serve", "a:1", "--connections", "17"], None),
+        (&["serve", "a:1", "--workers", "+1"], None),
+        (&["serve", "a:1", "--workers"], None),
+        (&["serve", "a:1", "--workers", "2", "--workers", "2"], None),
+        (&["serve", "a:1", "--orphans", "drop"], None),
+        (&["serve", "a:1", "--feeds", "2"], None),
+        (&["serve", "a:1", "b:2"], None),
         (&[], None),
     ];
     for (words, command) in cases.iter() {

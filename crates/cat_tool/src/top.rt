@@ -5,7 +5,9 @@ ghost use Rattle.std.specs.Io.KnownBytes.{Appends};
 ghost use Rattle.cat_api.specs.Wire.{Wired, wire_after, wire_reply};
 ghost use Rattle.cat_commands.specs.Lines.{line_of};
 ghost use Rattle.cat_commands.specs.declared.line.Line.TheVariants.{Settle};
+ghost use Rattle.cat_doors.specs.Doors.{HaveClosed};
 ghost use Rattle.cat_feed.specs.Feed.{begun};
+ghost use Rattle.cat_following.specs.declared.stop.Stop.TheVariants.{NoMemory};
 ghost use Rattle.cat_io.specs.Causes.{Rose};
 ghost use Rattle.cat_io.specs.Sink.{AppendsFront};
 ghost use Rattle.cat_layers.specs.Layered.{layered};
@@ -18,11 +20,13 @@ ghost use Rattle.cat_model.specs.declared.types.OrphanRule.{OrphanRule};
 ghost use Rattle.cat_model.specs.declared.types.OrphanRule.TheVariants.{Delete, Keep};
 ghost use Rattle.cat_replies.specs.Events.{settled};
 ghost use Rattle.cat_sample.specs.Summary.{sample_line};
+ghost use Rattle.cat_tool.specs.Mirrors.{HasMirrored, MirrorsSome};
 ghost use Rattle.cat_tool.specs.Sessions.{reply_next, session_at, session_next};
 ghost use Rattle.cat_tool.specs.Status.{HasRun, HasServed, HasTold};
 ghost use Rattle.cat_tool.specs.Wires.{wire_start};
 ghost use Rattle.cat_tool.specs.Words.{command_of};
 ghost use Rattle.cat_tool.specs.declared.command.TheConstants.{USAGE};
+ghost use Rattle.cat_tool.specs.declared.options.Serving.{Serving};
 ghost use Rattle.cat_transcript.specs.Inputs.{accepted_commands, inputs_fold, inputs_of};
 ghost use Rattle.cat_transcript.specs.Program.{program_settings, session_start};
 ghost use Rattle.cat_transcript.specs.Quiet.{IsAtRest};
@@ -31,14 +35,18 @@ ghost use Rattle.cat_transcript.specs.declared.state.SessionState.{SessionState}
 ghost use Rattle.cat_wire.specs.Worded.{HasWords};
 
 use crate::command::{Status, answer_lines, answer_messages, tell, usage};
-use crate::words::{Command, command_of};
+use crate::mirror::run_mirror;
+use crate::server::run_serve;
+use crate::settings::settings;
+use crate::words::{Command, address_of, command_of};
 use cat_api::service::Service;
 use cat_core::catalogue::{Catalogue, Done, Stitched};
 use cat_desk::timed::Timed;
+use cat_doors::Doors;
 use cat_fed::fed::Fed;
-use cat_io::{FixedClock, Sink, Source};
+use cat_io::{Clock, FixedClock, Sink, Source};
 use cat_layers::layered::Layered;
-use cat_model::types::{OrphanRule, Settings};
+use cat_model::types::OrphanRule;
 use cat_sample::sample;
 use cat_session::Session;
 use cat_transcript::law::{
@@ -46,18 +54,8 @@ use cat_transcript::law::{
     settled_sessions_are_at_rest,
 };
 use std::alloc::Global;
-
-// The settings of the program under a rule for orphans, in milliseconds and bytes.
-fn settings(orphans: OrphanRule) -> Settings
-    ensures { result ≡ program_settings orphans }
-{
-    Settings {
-        interval: 120_000,
-        lease: 60_000,
-        input_limit: 67_108_864,
-        orphans,
-    }
-}
+use std::sync::Wait;
+use std::thread::Threads;
 
 // An empty catalogue under a rule for orphans, at the moment 0, with a feed of the epoch 0, as a service.
 fn empty_service<'a>(
@@ -130,15 +128,21 @@ fn tell_sample<O: Sink>(alloc: Global, seed: u64, count: u64, sink: &mut O) -> S
 
 /// Runs the command that the words are. `session` answers the lines of the source over an empty catalogue, one reply a line; `wire`
 /// answers the messages of one HTTP connection over an empty catalogue whose moment is 0; each of them keeps or deletes what leaves at a
-/// finish, by the rule for orphans among its words; `sample` with a seed and a count makes a sample and writes its line; other words write
-/// the usage line. The status says how it ended: 0 where all input was read and answered, 2 for usage,
-/// 3 where the source failed, 4 where the sink failed, 9 for want of memory before the first line or message, or for a sample, 10 where 2^40
-/// bytes were taken.
-pub fn run<S: Source, O: Sink>(
+/// finish, by the rule for orphans among its words. `serve` listens at an address, and serves the HTTP connections that come over an empty
+/// catalogue, with workers beside them. `mirror` follows the feed whose changes are the lines of the source. `sample` with a seed and a
+/// count makes a sample and writes its line. Other words write the usage line.
+///
+/// The status says how it ended: 0 where all input was read and answered, and for `serve` where the doors have closed; 2 for usage; 3 where
+/// the source failed; 4 where the sink failed; 7 where the doors failed; 9 for want of memory, which only a mirror may tell after lines were
+/// answered; 10 where 2^40 bytes were taken.
+pub fn run<S: Source, O: Sink, C: Clock + Drop + Send, D: Doors + Send, R: Threads + Wait + Sync>(
+    rt: &R,
     alloc: Global,
     words: &[String],
     source: &mut S,
     sink: &mut O,
+    clock: C,
+    doors: &mut D,
 ) -> Status
     // The bytes written are the abstract catalogue's replies to the lines of the bytes that the source told.
     ensures headline { (rule : OrphanRule) → command_of (map string_bytes words.now) ≡ Some (Command.Session rule) → (end : SessionState)
@@ -153,6 +157,19 @@ pub fn run<S: Source, O: Sink>(
     // The line of a sample is that of the abstract catalogue.
     ensures sample { (seed count : ℕ) → command_of (map string_bytes words.now) ≡ Some (Command.Sample seed count)
         → HasTold (sample_line layered (program_settings Keep) seed count) result.0 (O.written sink.old) (O.written sink.new) (O.faults sink.old) (O.faults sink.new) }
+
+    // A mirror writes the answers to its lines, and at the end the list of its documents; where it stops before, a front of that.
+    ensures mirrored { command_of (map string_bytes words.now) ≡ Some Command.Mirror
+        → HasMirrored result.0 (S.left source.old) (S.left source.new) (O.written sink.old) (O.written sink.new) }
+
+    // A server that ends well ends with doors that have closed.
+    ensures closed { (serving : Serving) → command_of (map string_bytes words.now) ≡ Some (Command.Serve serving)
+        → result.0 ≡ 0 → HaveClosed (D.closed doors.new) }
+
+    // It leaves the source and the sink alone, and no other command touches the doors.
+    ensures served_apart { (serving : Serving) → command_of (map string_bytes words.now) ≡ Some (Command.Serve serving)
+        → (source.new ≡ source.old) × (sink.new ≡ sink.old) }
+    ensures doors_apart { ((serving : Serving) → command_of (map string_bytes words.now) ≢ Some (Command.Serve serving)) → doors.new ≡ doors.old }
 
     // After every prefix of the lines, where that catalogue is quiet its documents are those computed afresh.
     ensures fresh { (rule : OrphanRule) (lines : List (List ℕ)) (outcomes : List Word) (now : ℕ)
@@ -180,13 +197,23 @@ pub fn run<S: Source, O: Sink>(
     ensures usage_same { result.0 ≡ 2 → source.new ≡ source.old }
     ensures read_fault { result.0 ≡ 3 → Rose (S.faults source.old) (S.faults source.new) }
     ensures write_fault { result.0 ≡ 4 → Rose (O.faults sink.old) (O.faults sink.new) }
-    ensures memory { result.0 ≡ 9 → (source.new ≡ source.old) × (sink.new ≡ sink.old) }
+    ensures doors_fault { result.0 ≡ 7 → Rose (D.faults doors.old) (D.faults doors.new) }
+
+    // Memory lacks before anything is read or written, but a mirror may lack it at any line.
+    ensures memory { result.0 ≡ 9 → command_of (map string_bytes words.now) ≢ Some Command.Mirror
+        → (source.new ≡ source.old) × (sink.new ≡ sink.old) }
+    ensures mirror_memory { result.0 ≡ 9 → command_of (map string_bytes words.now) ≡ Some Command.Mirror
+        → MirrorsSome NoMemory (S.left source.old) (S.left source.new) (O.written sink.old) (O.written sink.new) }
+
+    // No count of faults falls.
     ensures read_later { S.faults source.old ≤ S.faults source.new }
     ensures write_later { O.faults sink.old ≤ O.faults sink.new }
+    ensures doors_later { D.faults doors.old ≤ D.faults doors.new }
 
     // Where no end failed, a command ends whole, for want of memory or at the bound.
     ensures complete { command_of (map string_bytes words.now) ≢ None
         → (Rose (S.faults source.old) (S.faults source.new) → ⊥) → (Rose (O.faults sink.old) (O.faults sink.new) → ⊥)
+        → (Rose (D.faults doors.old) (D.faults doors.new) → ⊥)
         → (result.0 ≡ 0) ⊎ ((result.0 ≡ 9) ⊎ (result.0 ≡ 10)) }
 {
     sessions_stay_sound();
@@ -197,6 +224,10 @@ pub fn run<S: Source, O: Sink>(
         None => usage(sink),
         Some(Command::Session(orphans)) => run_session(alloc, orphans, source, sink),
         Some(Command::Wire(orphans)) => run_connection(alloc, orphans, source, sink),
+        Some(Command::Serve(serving)) => {
+            run_serve(rt, alloc, address_of(words), serving, clock, doors)
+        }
+        Some(Command::Mirror) => run_mirror(alloc, source, sink),
         Some(Command::Sample(seed, count)) => tell_sample(alloc, seed, count, sink),
     }
 }

@@ -2,6 +2,7 @@
 ghost use Rattle.std.specs.Prelude.{◌≡◌, ◌<◌, ◌≤◌, ◌^◌, map, string_bytes};
 ghost use Rattle.cat_tool.specs.Words as spec;
 
+use crate::options::{Serving, rule_of, serving_of};
 use cat_commands::argument::number;
 use cat_model::types::OrphanRule;
 
@@ -18,10 +19,15 @@ pub enum Command {
     Session(OrphanRule),
     /// Answer the HTTP messages of the input, under a rule for orphans.
     Wire(OrphanRule),
+    /// Serve HTTP connections at an address, the second word, with workers beside them.
+    Serve(Serving),
+    /// Follow the feed whose changes are the lines of the input.
+    Mirror,
     /// Make a sample from a seed, with so many Components, and say what came of it.
     Sample(u64, u64),
 }
 
+// The command of a word that stands alone, or under a rule for orphans.
 fn under(rule: OrphanRule, word: &str) -> Option<Command>
     ensures { result ≡ spec.under rule word.now }
 {
@@ -32,13 +38,13 @@ fn under(rule: OrphanRule, word: &str) -> Option<Command>
     }
 }
 
-fn rule_of(word: &str) -> Option<OrphanRule>
-    ensures { result ≡ spec.rule_of word.now }
+fn alone(word: &str) -> Option<Command>
+    ensures { result ≡ spec.alone word.now }
 {
-    match word {
-        "keep" => Some(OrphanRule::Keep),
-        "delete" => Some(OrphanRule::Delete),
-        _ => None,
+    if word == "mirror" {
+        Some(Command::Mirror)
+    } else {
+        under(OrphanRule::Keep, word)
     }
 }
 
@@ -78,14 +84,46 @@ fn with_two(word: &str, one: &str, two: &str) -> Option<Command>
     }
 }
 
+fn serve(words: &[String]) -> Option<Command>
+    ensures { result ≡ spec.serve (map string_bytes words.now) }
+{
+    Some(Command::Serve(serving_of(words)?))
+}
+
+fn without_serve(word: &str, words: &[String]) -> Option<Command>
+    ensures { result ≡ spec.without_serve word.now (map string_bytes words.now) }
+{
+    match words {
+        [] => alone(word),
+        [one, two] => with_two(word, one.as_str(), two.as_str()),
+        _ => None,
+    }
+}
+
 /// The command of the words, if they are one: `session` or `wire`, alone or with `--orphans` and `keep` or `delete`, where alone is
-/// `keep`; or `sample` with a seed below 2^31 and a count of 1 to 50,000, both of 1 to 20 decimal digits.
+/// `keep`; `serve` with an address and options; `mirror`; or `sample` with a seed below 2^31 and a count of 1 to 50,000, both of 1 to
+/// 20 decimal digits.
 pub fn command_of(words: &[String]) -> Option<Command>
     ensures { result ≡ spec.command_of (map string_bytes words.now) }
 {
     match words {
-        [word] => under(OrphanRule::Keep, word.as_str()),
-        [word, one, two] => with_two(word.as_str(), one.as_str(), two.as_str()),
-        _ => None,
+        [] => None,
+        [word, rest @ ..] => {
+            if word.as_str() == "serve" {
+                serve(rest)
+            } else {
+                without_serve(word.as_str(), rest)
+            }
+        }
+    }
+}
+
+/// The address of a `serve`: the second of its words.
+pub(crate) fn address_of(words: &[String]) -> &str
+    ensures { result.now ≡ spec.address_of (map string_bytes words.now) }
+{
+    match words {
+        [_, address, ..] => address.as_str(),
+        _ => "",
     }
 }

@@ -1,3 +1,6 @@
-//! Tests that cross crates will stand here: whole sessions over sources and sinks in memory. The crate has no code of its own and promises
-//! nothing.
+//! Tests that cross crates, over the real layers: quiet documents beside those that the plain program computes from scratch, and inputs
+//! that are too large. The crate has no code of its own and promises nothing.
 #![tactic(auto)]
+
+#[cfg(test)]
+mod tests;

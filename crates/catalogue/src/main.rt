@@ -1,9 +1,10 @@
-//! The program: its words, standard input and standard output are given to the top call of cat_tool, and its status is the
-//! program's.
+//! The program: its words, standard input and standard output, the host's clock and doors over TCP are given to the top call of
+//! cat_tool, and its status is the program's.
 //!
 //! It promises nothing of its own; what it prints is told by `cat_tool::run`, as far as the operating system hands on what it is given.
 #![tactic(auto)]
 
+use cat_doors::{HostClock, TcpDoors};
 use cat_io::{StdSink, StdSource};
 use cat_tool::{Status, run};
 use std::process::ExitCode;
@@ -29,7 +30,16 @@ fn main(rt: HostRuntime) -> ExitCode {
         Ok(words) => {
             let mut source = StdSource::new(rt.stdin());
             let mut sink = StdSink::new(rt.stdout());
-            run(rt.alloc(), words.as_slice(), &mut source, &mut sink)
+            let mut doors = TcpDoors::new(&rt);
+            run(
+                &rt,
+                rt.alloc(),
+                words.as_slice(),
+                &mut source,
+                &mut sink,
+                HostClock::new(&rt),
+                &mut doors,
+            )
         }
         Err(_) => Status(9),
     };

@@ -1,0 +1,6 @@
+pub mod SentTrees
+pub mod SentMaps
+pub mod SentStates
+pub mod SentTurns
+pub mod SentBooks
+pub mod SentHelpers

@@ -1,0 +1,96 @@
+-- A state, the links beside it and a feed may go to other threads.
+use mathlib.Core.List.{[], ◌∷◌}
+use denote.Param.Send.{IsSend, IsSync, sendable, view_send, view_sync}
+use denote.Param.SendFields.{declared_send, declared_sync, as_row_send, as_row_sync}
+use denote.RattleType.{RattleType}
+use denote.Struct.Field.{row_field}
+use denote.Struct.Tuple.{Tuple, tuple_type}
+use Rattle.std.proofs.Crossing.{crosses, Arc-send, Arc-sync}
+use Rattle.cat_tree.specs.contracts.tree.Tree as Tree
+use Rattle.cat_table.specs.declared.key.Key as Key
+use Rattle.cat_table.specs.contracts.map.Map as Map
+use Rattle.cat_table.specs.contracts.map.Map.TheInside as within
+use Rattle.cat_table.specs.contracts.tree.Tree as Shared
+use Rattle.cat_ref.specs.contracts.reference.Ref as Ref
+use Rattle.cat_types.specs.contracts.node.Node as Node
+use Rattle.cat_types.specs.contracts.node.Node.TheInside as inside
+use Rattle.cat_types.specs.contracts.work.Output as Output
+use Rattle.cat_types.specs.contracts.relation.Relation as Relation
+use Rattle.cat_links.specs.contracts.links.Links as Links
+use Rattle.cat_links.specs.contracts.links.Links.TheInside as linked
+use Rattle.cat_model.specs.contracts.types.Record as Record
+use Rattle.cat_model.specs.contracts.types.State as State
+use Rattle.cat_host.proofs.SentTrees.{Tree-send, Tree-sync}
+use Rattle.cat_host.proofs.SentMaps as shared
+
+pub node_send : IsSend Node.the_row
+node_send = view_send _ _ _ _ _ (declared_send inside.the_type (Arc-send Tree.the_row Tree-send Tree-sync, tt))
+
+pub node_sync : IsSync Node.the_row
+node_sync = view_sync _ _ _ _ _ (declared_sync inside.the_type (Arc-sync Tree.the_row Tree-send Tree-sync, tt))
+
+pub ref_send : IsSend Ref.the_row
+ref_send = search (sendable, crosses) depth 40
+
+pub ref_sync : IsSync Ref.the_row
+ref_sync = search (sendable, crosses) depth 40
+
+pub ruleset known = (node_send, node_sync, ref_send, ref_sync, sendable, crosses)
+
+pub output_send : IsSend Output.the_row
+output_send = declared_send Output.the_type (search known depth 60, (search known depth 60, tt))
+
+pub record_send : IsSend Record.the_row
+record_send = declared_send Record.the_type (search known depth 60, (search (output_send, known) depth 60, (search known depth 60, (search known depth 60, (search known depth 60, tt)))))
+
+pub state_send : IsSend State.the_row
+state_send = declared_send State.the_type (
+  search known depth 60,
+  (
+    search known depth 60,
+    (
+      search known depth 60,
+      (
+        search known depth 60,
+        (
+          search (record_send, known) depth 60,
+          (
+            search known depth 60,
+            (
+              search known depth 60,
+              (
+                search known depth 60,
+                (search known depth 60, (search known depth 60, (search known depth 60, (search known depth 60, tt)))),
+              ),
+            ),
+          ),
+        ),
+      ),
+    ),
+  ),
+)
+
+-- ---- maps
+
+module _ (K X : RattleType) where
+  entry_send : IsSend K → IsSend X → IsSend (Tuple (K ∷ X ∷ []))
+  entry_send k x = declared_send (tuple_type (K ∷ X ∷ [])) (as_row_send (row_field K) k, (as_row_send (row_field X) x, tt))
+
+  entry_sync : IsSync K → IsSync X → IsSync (Tuple (K ∷ X ∷ []))
+  entry_sync k x = declared_sync (tuple_type (K ∷ X ∷ [])) (as_row_sync (row_field K) k, (as_row_sync (row_field X) x, tt))
+
+  module _ (g : Key.Ghosts K.Denot) (k : IsSend K) (k' : IsSync K) (x : IsSend X) (x' : IsSync X) where
+    pub Map-send : IsSend (Map.the_row K X g)
+    Map-send = view_send _ _ _ _ _ (declared_send (within.the_type K X g) (as_row_send (Shared.the_field (Tuple (K ∷ X ∷ []))) (shared.Tree-send (Tuple (K ∷ X ∷ [])) (entry_send k x) (entry_sync k' x')), tt))
+
+    pub Map-sync : IsSync (Map.the_row K X g)
+    Map-sync = view_sync _ _ _ _ _ (declared_sync (within.the_type K X g) (as_row_sync (Shared.the_field (Tuple (K ∷ X ∷ []))) (shared.Tree-sync (Tuple (K ∷ X ∷ [])) (entry_send k x) (entry_sync k' x')), tt))
+
+relation_send : IsSend Relation.the_row
+relation_send = search known depth 60
+
+relation_sync : IsSync Relation.the_row
+relation_sync = search known depth 60
+
+pub links_send : IsSend Links.the_row
+links_send = view_send _ _ _ _ _ (declared_send linked.the_type (search (Map-send, Map-sync, relation_send, relation_sync, known) depth 60, (search (Map-send, Map-sync, relation_send, relation_sync, known) depth 60, tt)))

@@ -1,0 +1,29 @@
+use Rattle.std.proofs.Common.{◌≡◌, ℕ, ◌≤◌, List, [], ◌∷◌, length, map, string_bytes, drop, sym, ap, ◌∙◌, arith}
+use Rattle.std.proofs.lemmas.List.{take_rest}
+use Rattle.std.specs.Prelude.{option_and_then, slice_index_or}
+use Rattle.cat_tool.specs.Options as spec
+use Rattle.cat_tool.proofs.options.+with_options.Goals as goal
+
+-- two words stand before the rest
+parted : {A : Type 0} (f : A → List ℕ) (words : List A) (x y : A) → 2 ≤ length words → x ≡ slice_index_or words 0 x → y ≡ slice_index_or words 1 y
+    → map f words ≡ f x ∷ f y ∷ map f (drop 2 words)
+parted f [] x y long first second = absurd (omega arith)
+parted f (a ∷ []) x y long first second = absurd (omega arith)
+parted f (a ∷ b ∷ words) x y long first second = let p : x ≡ a = first in let q : y ≡ b = second in sym (ap (λ z. f z ∷ f y ∷ map f words) p ∙ ap (λ z. f a ∷ f z ∷ map f words) q)
+
+pub returns-in_ok-with_option-in-len2-up : goal.returns-in_ok-with_option-in-len2-up
+returns-in_ok-with_option-in-len2-up t c =
+    let words = c.args.words.now in
+    let options = c.args.options in
+    let name = c.name-item.result in
+    let value = c.value-item.result in
+    let more = c.in_ok-with_option-in-len2-up.field-0 in
+    c.with_options.ensures
+    ∙ ap (λ rest. spec.with_options more (map string_bytes rest)) (take_rest words 2)
+    ∙ ap (option_and_then (λ next. spec.with_options next (map string_bytes (drop 2 words)))) (
+    sym c.in_ok-with_option-in-len2-up.was
+    ∙ c.with_option.ensures
+    ∙ ap (λ n. spec.with_option options n c.as_str-in-len2-up.result.now) c.as_str.ensures.value
+    ∙ ap (spec.with_option options (string_bytes name)) c.as_str-in-len2-up.ensures.value
+    )
+    ∙ ap (spec.with_options options) (sym (parted string_bytes words name value c.in-len2-up.len_at_least c.name-item.is c.value-item.is))
