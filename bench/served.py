@@ -1,7 +1,7 @@
 #!/usr/bin/env python3
 """served.py [COUNT [SECONDS]]: how fast the built program serves many connections.
 
-COUNT Components (5,000, if nothing is said) over ten Groups are given to `serve` with 4 connections, and `wrk` asks over 4 connections for so many seconds (5) an
+COUNT Components (5,000, if nothing is said) over ten Groups are given to `serve` with 5 connections, and `wrk` asks over 4 of them for so many seconds (5) an
 entity by name and a page of 20; the same with one client beside it that writes. Beside them stands nginx, which serves the same bytes as a file. Then as many
 Components are given to servers with 1 and with 4 pairs of workers, and the time is taken until all documents are there. It needs `wrk` and `nginx`.
 """
