@@ -96,6 +96,7 @@ words_short (refusal.CutByCounter events counter) s n = cut_short events counter
 words_short (refusal.CutByMemory events) s n = numbered_short (codes "memory ") events (omega arith) n
 words_short refusal.SpentFeed s n = omega arith
 words_short refusal.Reply s n = omega arith
+words_short refusal.Keeper s n = omega arith
 words_short refusal.NoMemory s n = omega arith
 
 status_small : (r : Refusal) → status_of r < 2 ^ 64
@@ -119,6 +120,7 @@ status_small (refusal.CutByCounter events counter) = omega arith
 status_small (refusal.CutByMemory events) = omega arith
 status_small refusal.SpentFeed = omega arith
 status_small refusal.Reply = omega arith
+status_small refusal.Keeper = omega arith
 status_small refusal.NoMemory = omega arith
 
 counts_short : (n : Counts) → AreNumbers n → length (counts_body n) ≤ 160
@@ -175,6 +177,7 @@ allows_none (refusal.CutByCounter events counter) s = refl
 allows_none (refusal.CutByMemory events) s = refl
 allows_none refusal.SpentFeed s = refl
 allows_none refusal.Reply s = refl
+allows_none refusal.Keeper s = refl
 allows_none refusal.NoMemory s = refl
 
 tells_none : (a : Answer) → IsShort a → answer_allow a ≡ []

@@ -36,6 +36,7 @@ refusal_named (refusal.CutByCounter events counter) = refl
 refusal_named (refusal.CutByMemory events) = refl
 refusal_named refusal.SpentFeed = refl
 refusal_named refusal.Reply = refl
+refusal_named refusal.Keeper = refl
 refusal_named refusal.NoMemory = refl
 
 answer_named : (a : Answer) → IsTrue (is_named (answer_status a))

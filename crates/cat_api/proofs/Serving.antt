@@ -34,12 +34,12 @@ use Rattle.cat_api.specs.Operations.{Operation, operation}
 use Rattle.cat_api.specs.Operations.Operation.{Act, Ask, Tell}
 use Rattle.cat_api.specs.Wire.{Wired, after_operation, after_requested, operation_answer, requested_answer, wire_after, wire_reply}
 use Rattle.cat_api.specs.declared.kind.Kind.{Kind}
-use Rattle.cat_api.proofs.Said.{did, stayed}
+use Rattle.cat_api.proofs.Said.{IsDone, did, stayed}
 use Rattle.cat_requests.specs.Answers.{reply_to}
 use Rattle.cat_requests.specs.Requests.{request_of}
 use Rattle.cat_requests.specs.declared.refusal.Refusal.{Refusal}
 use Rattle.cat_requests.specs.declared.request.Request.{Request}
-use Rattle.cat_wire.specs.Worded.{Word, plain, cut, untold, IsAnswered, AnswersMessage, LacksMemory, IsWorded}
+use Rattle.cat_wire.specs.Worded.{Word, plain, cut, untold, unkept, IsAnswered, AnswersMessage, LacksMemory, IsWorded}
 
 -- what the desk says to a question is the answer to it
 asked_is : (answer : Result (List ℕ) AskFault) (said : Asked) (text : List ℕ) → IsAnswer answer said text → said ≢ NoMemory → asked_answer said text ≡ ask_answer answer
@@ -112,12 +112,13 @@ module _ {A T : Type 0} (rules : Rules) (timed : A → T) (catalogue : T → Led
     said_at : (q : Question) (said : Asked) (text : List ℕ) → asks_at old q new said text → IsAnswer (ask_text q 0 (catalogue (timed old)).state) said text
     said_at q said text h = subst (λ n. IsAnswer (ask_text q n (catalogue (timed old)).state) said text) (h.0.1 ∙ zero) h.0.0.answer
 
-    acted_by : (d : Deed) (k : Kind) (m : Message) (r : HttpReply) (reply : Reply) (word : deeds.Word) → deeds.IsActing word
+    acted_by : (d : Deed) (k : Kind) (m : Message) (r : HttpReply) (reply : Reply) (word : deeds.Word) → IsDone word
         → (catalogue (timed new)).state ≡ after_deed rules (catalogue (timed old)).settings 0 word d (catalogue (timed old)).state
         → (catalogue (timed new)).settings ≡ (catalogue (timed old)).settings → feed new ≡ feed old
         → reply ≡ deed_reply rules (catalogue (timed old)).settings 0 word d (catalogue (timed old)).state → r ≡ reply_to m (act_answer k reply) → IsAtZero new → Done old new (Act d k) m r
     acted_by d k m r reply deeds.plain acts state settings told answer is at = (at, (plain, tt, wired_is old new _ _ state settings told, is ∙ ap (λ x. reply_to m (act_answer k x)) answer))
     acted_by d k m r reply deeds.memory acts state settings told answer is at = absurd acts
+    acted_by d k m r reply deeds.unkept acts state settings told answer is at = (at, (unkept, tt, wired_is old new _ _ state settings told, is ∙ ap (λ x. reply_to m (act_answer k x)) answer))
     acted_by d k m r reply (deeds.cut n) acts state settings told answer is at = (at, (cut n, tt, wired_is old new _ _ state settings told, is ∙ ap (λ x. reply_to m (act_answer k x)) answer))
 
     done_at : (o : Operation) (m : Message) (r : HttpReply) → Carries acts_at asks_at tells_at old new o m r → Done old new o m r

@@ -20,7 +20,7 @@ use Rattle.cat_api.specs.declared.kind.Kind.TheVariants.{Mutation, Shelving, Ref
 use Rattle.cat_requests.specs.declared.answer.Answer.{Answer}
 use Rattle.cat_requests.specs.declared.answer.Answer.TheVariants.{Shown, Mutated, Done, Refreshed, Settled, Refused}
 use Rattle.cat_requests.specs.declared.refusal.Refusal.{Refusal}
-use Rattle.cat_requests.specs.declared.refusal.Refusal.TheVariants.{Entity, Shelf, Facet, Gone, Ahead, OldSerial, TooLarge, Spent, CutByCounter, CutByMemory, SpentFeed, Reply as Strange, NoMemory}
+use Rattle.cat_requests.specs.declared.refusal.Refusal.TheVariants.{Entity, Shelf, Facet, Gone, Ahead, OldSerial, TooLarge, Spent, CutByCounter, CutByMemory, SpentFeed, Reply as Strange, Keeper, NoMemory}
 
 -- what isn't there is an entity, or a text on the shelf
 abbrev pub missing : Kind → Refusal
@@ -36,6 +36,7 @@ fault_refusal k (core.OldSerial last) = OldSerial last
 fault_refusal k core.NotFound = missing k
 fault_refusal k (core.TooLarge sum) = TooLarge sum
 fault_refusal k (core.Spent counter) = Spent counter
+fault_refusal k core.Keeper = Keeper
 fault_refusal k core.NoMemory = NoMemory
 
 -- a settle was cut after so many events
@@ -44,6 +45,7 @@ cut_by events (core.OldSerial last) = CutByMemory events
 cut_by events core.NotFound = CutByMemory events
 cut_by events (core.TooLarge sum) = CutByMemory events
 cut_by events (core.Spent counter) = CutByCounter events counter
+cut_by events core.Keeper = CutByMemory events
 cut_by events core.NoMemory = CutByMemory events
 
 -- a record that is made due is answered by an empty object, and what else changed by nothing
@@ -98,6 +100,7 @@ told_answer told.NoMemory text = Refused NoMemory
 -- the fault is want of memory
 abbrev pub is_want : CoreFault → Bool
 is_want core.NoMemory = true
+is_want core.Keeper = false
 is_want (core.OldSerial last) = false
 is_want core.NotFound = false
 is_want (core.TooLarge sum) = false

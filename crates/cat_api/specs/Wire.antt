@@ -19,7 +19,7 @@ use Rattle.cat_requests.specs.declared.answer.Answer.{Answer}
 use Rattle.cat_requests.specs.declared.answer.Answer.TheVariants.{Refused}
 use Rattle.cat_requests.specs.declared.refusal.Refusal.{Refusal}
 use Rattle.cat_requests.specs.declared.request.Request.{Request}
-use Rattle.cat_wire.specs.Worded.{Word, plain, memory, cut, untold, After, Reply}
+use Rattle.cat_wire.specs.Worded.{Word, plain, memory, cut, untold, unkept, After, Reply}
 
 -- a catalogue and its feed
 pub record Wired : Type 0 where
@@ -32,6 +32,7 @@ deed_word plain = deeds.plain
 deed_word memory = deeds.memory
 deed_word (cut n) = deeds.cut n
 deed_word untold = deeds.memory
+deed_word unkept = deeds.unkept
 
 -- ---- the state
 

@@ -42,6 +42,7 @@ fn fault_refusal(kind: Kind, fault: CoreFault) -> Refusal
         CoreFault::NotFound => missing(kind),
         CoreFault::TooLarge(sum) => Refusal::TooLarge(sum),
         CoreFault::Spent(counter) => Refusal::Spent(counter),
+        CoreFault::Keeper => Refusal::Keeper,
         CoreFault::NoMemory => Refusal::NoMemory,
     }
 }
@@ -55,6 +56,7 @@ fn cut_refusal(cut: Cut) -> Refusal
         CoreFault::OldSerial(_)
         | CoreFault::NotFound
         | CoreFault::TooLarge(_)
+        | CoreFault::Keeper
         | CoreFault::NoMemory => Refusal::CutByMemory(cut.events),
     }
 }

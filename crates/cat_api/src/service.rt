@@ -37,6 +37,13 @@ impl<F: Drop, S: Drop, D: FeedDesk<F, S>> Service<F, S, D> {
         }
     }
 
+    /// The desk.
+    pub fn into_desk(self) -> D
+        ensures { result ≡ self.desk }
+    {
+        self.desk
+    }
+
     // Answers a message with the bytes of the reply.
     fn answer_message(&mut self, message: &Message) -> Result<Vec<u8>, AllocError>
         ensures ok { IfOk result (λ text. AnswersBytes D.acts D.asks D.tells self.old.desk message.now self.new.desk text.items) }

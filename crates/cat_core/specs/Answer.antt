@@ -20,7 +20,7 @@ use Rattle.cat_model.specs.declared.types.Record.{Record}
 use Rattle.cat_model.specs.Settle.{try_settle}
 use Rattle.cat_model.specs.Sound.{Quiet}
 use Rattle.cat_core.specs.declared.fault.CoreFault.{CoreFault}
-use Rattle.cat_core.specs.declared.fault.CoreFault.TheVariants.{OldSerial, NotFound, TooLarge, Spent, NoMemory}
+use Rattle.cat_core.specs.declared.fault.CoreFault.TheVariants.{OldSerial, NotFound, TooLarge, Spent, Keeper, NoMemory}
 use Rattle.cat_core.specs.declared.fault.Cut.{Cut}
 
 -- a refusal as calls answer it
@@ -59,6 +59,7 @@ IsFault (OldSerial n) refusal = refusal ≡ Some (ModelOldSerial n)
 IsFault NotFound refusal = refusal ≡ Some ModelNotFound
 IsFault (TooLarge n) refusal = refusal ≡ Some (ModelTooLarge n)
 IsFault (Spent c) refusal = refusal ≡ Some (ModelSpent c)
+IsFault Keeper refusal = ⊥
 
 -- the reply where nothing is refused, or the fault
 abbrev pub IsReply : {T : Type 0} → Result T CoreFault → Option Fault → T → Type 0
@@ -72,6 +73,7 @@ IsCause (OldSerial n) stop = stop ≡ Some (StopRefused (ModelOldSerial n))
 IsCause NotFound stop = stop ≡ Some (StopRefused ModelNotFound)
 IsCause (TooLarge n) stop = stop ≡ Some (StopRefused (ModelTooLarge n))
 IsCause (Spent c) stop = stop ≡ Some (StopRefused (ModelSpent c))
+IsCause Keeper stop = ⊥
 
 -- where a refusal cut it, a settle went as far as it goes
 abbrev pub IsWhole : CoreFault → Progress → State → ℕ → Type 0
@@ -80,6 +82,7 @@ IsWhole (OldSerial k) p n events = (p.state ≡ n) × (p.events ≡ events)
 IsWhole NotFound p n events = (p.state ≡ n) × (p.events ≡ events)
 IsWhole (TooLarge k) p n events = (p.state ≡ n) × (p.events ≡ events)
 IsWhole (Spent c) p n events = (p.state ≡ n) × (p.events ≡ events)
+IsWhole Keeper p n events = ⊥
 
 -- of a settle of m that was cut exactly the first events stand, those that it has where its limit is as many
 pub record IsCutSettle (rules : Rules) (s : Settings) (now : ℕ) (m n : State) (cut : Cut) : Type 0 where

@@ -1,6 +1,7 @@
 -- What holds of a catalogue between two calls.
 use Rattle.std.specs.Prelude.{◌<◌, ◌≤◌, ◌^◌}
 use Rattle.cat_model.specs.declared.types.Settings.{Settings}
+use Rattle.cat_model.specs.declared.types.State.{State}
 use Rattle.cat_model.specs.Catalogue.{Rules}
 use Rattle.cat_model.specs.Sound.{AreBegun}
 use Rattle.cat_links.specs.Links.{Emitted}
@@ -14,6 +15,11 @@ pub record AreSettings (s : Settings) : Type 0 where
   pub lease_from : 1 ≤ s.lease
   pub lease_to : s.lease ≤ 2 ^ 40
   pub input_limit : s.input_limit < 2 ^ 62
+
+-- what holds between two events holds of a state and the links beside it, and the counters are at least 1
+pub record IsSaved (rules : Rules) (links : Emitted) (m : State) : Type 0 where
+  pub steady : IsSteady rules links m
+  pub begun : AreBegun m
 
 -- the settings are in their bounds, what holds between two events holds of the state and the links beside it, and the counters are at least 1
 pub record IsKept (rules : Rules) (links : Emitted) (ledger : Ledger) : Type 0 where

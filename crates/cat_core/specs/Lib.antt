@@ -1,4 +1,5 @@
 pub mod Answer
 pub mod Kept
 pub mod Least
+pub mod Soonest
 pub mod Waits

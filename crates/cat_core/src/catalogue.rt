@@ -41,14 +41,14 @@ use cat_model::types::{
 };
 use cat_ref::reference::Ref;
 use cat_settle::settle::settled;
-use cat_table::listing::Listing;
+use cat_table::listing::{Copied, Listing};
 use cat_tree::text::Text;
 use cat_types::input::Mutation;
 use cat_types::issue::Issue;
 use cat_types::node::Node;
 use cat_types::table::Table;
 use std::alloc::{AllocError, Global};
-use std::marker::Model;
+use std::marker::{Model, PhantomData};
 use std::mem;
 
 /// A catalogue over its lower layers. Beside its state it keeps what each kept output emits.
@@ -71,6 +71,28 @@ impl<L: Layers> Model for Catalogue<L> {
     ghost view = { λ a. a.ledger };
 
     ghost invariant = { λ a. IsKept L.rules a.links a.ledger };
+}
+
+/// What a catalogue held, with what its kept outputs emitted. Its type keeps that what must hold between two events holds.
+#[derive(Drop)]
+pub struct Saved<L: Layers> {
+    state: State,
+    links: Links,
+    layers: PhantomData<L>,
+}
+
+impl<L: Layers> Model for Saved<L> {
+    ghost use Rattle.cat_core.specs.Kept.{IsSaved};
+    ghost use Rattle.cat_model.specs.contracts.types.State.{the_row};
+    ghost use Rattle.cat_model.specs.declared.types.State.{State};
+
+    ghost Value = { State };
+
+    ghost coded = { the_row.coded };
+
+    ghost view = { λ a. a.state };
+
+    ghost invariant = { λ a. IsSaved L.rules a.links a.state };
 }
 
 fn empty_state(alloc: Global) -> State
@@ -193,6 +215,42 @@ impl<L: Layers> Catalogue<L> {
             ledger: Ledger { settings, state },
             links: Links::empty(),
         }
+    }
+
+    /// A catalogue with this state, whose kept outputs emit these links. No memory is taken.
+    pub fn over(layers: L, settings: Settings, state: State, links: Links) -> Catalogue<L>
+        requires bounds { AreSettings settings }
+        requires steady { IsSteady L.rules links state }
+        requires begun { AreBegun state }
+        ensures state { result.state ≡ state }
+        ensures settings { result.settings ≡ settings }
+    {
+        Catalogue {
+            layers,
+            ledger: Ledger { settings, state },
+            links,
+        }
+    }
+
+    /// A copy of what the catalogue holds, to which it can be put back. The only error is want of memory.
+    pub fn saved(&self, alloc: Global) -> Result<Saved<L>, AllocError>
+        ensures { IfOk result (λ saved. saved ≡ self.now.state) }
+    {
+        Ok(Saved {
+            state: self.ledger.state.duplicate(alloc)?,
+            links: self.links.share()?,
+            layers: PhantomData,
+        })
+    }
+
+    /// Puts the catalogue back to what it held when it was saved. No memory is taken.
+    pub fn put_back(&mut self, saved: Saved<L>)
+        ensures state { self.new.state ≡ saved }
+        ensures settings { self.new.settings ≡ self.old.settings }
+    {
+        let Saved { state, links, .. } = saved;
+        self.ledger.state = state;
+        self.links = links;
     }
 
     /// A provider's inputs change, and what follows from that. A serial that is the last one again changes nothing. Neither
@@ -470,7 +528,8 @@ impl<L: Layers> Catalogue<L> {
 
     /// All that the catalogue holds, to be read.
     pub fn view(&self) -> &State
-        ensures { result.now ≡ self.now.state }
+        ensures state { result.now ≡ self.now.state }
+        ensures records { IsTrue (is_sorted text_cmp result.now.records) }
     {
         &self.ledger.state
     }

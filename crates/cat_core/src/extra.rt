@@ -1,9 +1,10 @@
 //! What calls make of other events: a take of what is due first, and a forget by number.
-ghost use Rattle.std.specs.Prelude.{◌≡◌, ◌&&◌, cond, IfOk, ℕ, List, Option, Bool, option_map};
-ghost use Rattle.std.specs.declared.option.Option.TheVariants.{None, Some};
-ghost use Rattle.std.specs.List.{filter};
-ghost use Rattle.cat_table.specs.Table.{first, get, keys};
-ghost use Rattle.cat_model.specs.Step.{due_at, earlier, earliest, is_free, may_take, next_taken, ref_at};
+ghost use Rattle.std.specs.Prelude.{◌≡◌, cond, IfOk, IsTrue, Option, option_map};
+ghost use Rattle.std.specs.declared.option.Option.TheVariants.{Some};
+ghost use Rattle.std.specs.FinMap.Entries.{is_sorted};
+ghost use Rattle.cat_table.specs.Table.{text_cmp};
+ghost use Rattle.cat_core.specs.Soonest.{sooner, soonest};
+ghost use Rattle.cat_model.specs.Step.{is_free, may_take, next_taken, ref_at};
 ghost use Rattle.cat_model.specs.Step.Event.{ForgetNumber};
 ghost use Rattle.cat_events.specs.Coming.{HasCome, IsSteady};
 ghost use Rattle.cat_events.specs.Stepped.{come_to};
@@ -55,33 +56,21 @@ fn free(now: u64, lease: &Option<Lease>) -> bool
     }
 }
 
-fn may(now: u64, kept: Option<&Record>) -> bool
-    ensures { result ≡ may_take now (option_map (λ x. x.now) kept.entry) }
+fn may(now: u64, kept: &Record) -> bool
+    ensures { result ≡ may_take now (Some kept.now) }
 {
-    match kept {
-        None => false,
-        Some(kept) => kept.due <= now && free(now, &kept.lease),
-    }
+    kept.due <= now && free(now, &kept.lease)
 }
 
-fn moment_of(kept: Option<&Record>) -> u64
-    ensures { result ≡ due_at (option_map (λ x. x.now) kept.entry) }
-{
-    match kept {
-        None => 0,
-        Some(kept) => kept.due,
-    }
-}
-
-// The first of two in order of due moment, and then of place.
-fn sooner<'a>(m: &State, reference: &'a Ref, best: Option<&'a Ref>) -> &'a Ref
-    ensures { Some result.now ≡ earlier m.now reference.now (option_map (λ r. r.now) best.entry) }
+// The first of two entries in order of due moment, and then of place.
+fn sooner<'a>(entry: &'a (Ref, Record), best: Option<&'a (Ref, Record)>) -> &'a (Ref, Record)
+    ensures { Some result.now ≡ sooner entry.now (option_map (λ e. e.now) best.entry) }
 {
     match best {
-        None => reference,
+        None => entry,
         Some(best) => {
-            if moment_of(m.records.get(reference)) <= moment_of(m.records.get(best)) {
-                reference
+            if entry.1.due <= best.1.due {
+                entry
             } else {
                 best
             }
@@ -89,41 +78,41 @@ fn sooner<'a>(m: &State, reference: &'a Ref, best: Option<&'a Ref>) -> &'a Ref
     }
 }
 
-// The first of two, where the first of them counts only if it may be taken.
+// The first of two entries, where the first of them counts only if its record may be taken.
 fn sooner_taken<'a>(
-    m: &State,
     now: u64,
-    reference: &'a Ref,
-    best: Option<&'a Ref>,
-) -> Option<&'a Ref>
-    ensures { option_map (λ r. r.now) result ≡ cond (may_take now (get m.now.records reference.now)) (earlier m.now reference.now (option_map (λ r. r.now) best.entry)) (option_map (λ r. r.now) best.entry) }
+    entry: &'a (Ref, Record),
+    best: Option<&'a (Ref, Record)>,
+) -> Option<&'a (Ref, Record)>
+    ensures { option_map (λ e. e.now) result ≡ cond (may_take now (Some entry.now.1)) (sooner entry.now (option_map (λ e. e.now) best.entry)) (option_map (λ e. e.now) best.entry) }
 {
-    if may(now, m.records.get(reference)) {
-        Some(sooner(m, reference, best))
+    if may(now, &entry.1) {
+        Some(sooner(entry, best))
     } else {
         best
     }
 }
 
-fn soonest(m: &State, now: u64) -> Option<&Ref>
-    ensures { option_map (λ r. r.now) result ≡ next_taken now m.now }
+// Of the entries whose records may be taken, the first in order of due moment, and then of place.
+fn soonest(entries: &[(Ref, Record)], now: u64) -> Option<&(Ref, Record)>
+    ensures { option_map (λ e. e.now) result ≡ soonest now entries.now }
 {
-    let entries = m.records.as_slice();
     let mut best = None;
     let mut left = entries.len();
     while left > 0 {
         left -= 1;
-        best = sooner_taken(m, now, &entries[left].0, best);
+        best = sooner_taken(now, &entries[left], best);
     }
     best
 }
 
-/// The record that a take at this moment leases. Only its reference is copied.
+/// The record that a take at this moment leases, of records in order. Only its reference is copied.
 pub fn take_ref(alloc: Global, m: &State, now: u64) -> Result<Option<Ref>, AllocError>
+    requires { IsTrue (is_sorted text_cmp m.now.records) }
     ensures { IfOk result (λ r. r ≡ next_taken now m.now) }
 {
-    match soonest(m, now) {
+    match soonest(m.records.as_slice(), now) {
         None => Ok(None),
-        Some(reference) => Ok(Some(reference.duplicate(alloc)?)),
+        Some((reference, _)) => Ok(Some(reference.duplicate(alloc)?)),
     }
 }

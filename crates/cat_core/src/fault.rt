@@ -17,6 +17,9 @@ pub enum CoreFault {
     /// A counter would pass its bound.
     #[error("the counter {0} is spent")]
     Spent(Counter),
+    /// What would change couldn't be kept: the keeper failed. Only a catalogue that is kept in a store is refused so.
+    #[error("the keeper failed")]
+    Keeper,
     /// Want of memory.
     #[error("out of memory")]
     NoMemory,

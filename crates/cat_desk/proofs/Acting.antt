@@ -31,6 +31,7 @@ Lacks (Err (core.OldSerial n)) = ⊥
 Lacks (Err core.NotFound) = ⊥
 Lacks (Err (core.TooLarge n)) = ⊥
 Lacks (Err (core.Spent c)) = ⊥
+Lacks (Err core.Keeper) = ⊥
 Lacks (Err core.NoMemory) = ⊤
 
 -- what lacked memory answered so
@@ -40,6 +41,7 @@ lacking (Err (core.OldSerial n)) lacks = absurd lacks
 lacking (Err core.NotFound) lacks = absurd lacks
 lacking (Err (core.TooLarge n)) lacks = absurd lacks
 lacking (Err (core.Spent c)) lacks = absurd lacks
+lacking (Err core.Keeper) lacks = absurd lacks
 lacking (Err core.NoMemory) lacks = refl
 
 -- what is answered otherwise didn't lack memory
@@ -93,6 +95,7 @@ module _ (rules : Rules) (now : ℕ) (old new : Ledger) (same : new.settings ≡
   replied says x d e is (Err core.NotFound) state h needs = refused d e (says x) is model.NotFound state h
   replied says x d e is (Err (core.TooLarge n)) state h needs = refused d e (says x) is (model.TooLarge n) state h
   replied says x d e is (Err (core.Spent c)) state h needs = refused d e (says x) is (model.Spent c) state h
+  replied says x d e is (Err core.Keeper) state h needs = absurd h
   replied says x d e is (Err core.NoMemory) state h needs = record { word = memory; state = state; settings = same; answer = refl; spare = λ none. absurd (needs tt none); exact = tt }
 
   -- what a call answered to a deed that is an event
@@ -130,6 +133,7 @@ module _ (rules : Rules) (now : ℕ) (old new : Ledger) (same : new.settings ≡
   cut_at events core.NotFound h = spent _ model.NotFound h.whole h.cause refl
   cut_at events (core.TooLarge n) h = spent _ (model.TooLarge n) h.whole h.cause refl
   cut_at events (core.Spent c) h = spent _ (model.Spent c) h.whole h.cause refl
+  cut_at events core.Keeper h = absurd h.cause
   cut_at events core.NoMemory h = cutting _ h refl
 
   settled_at : (came : Result Counts Cut) → IfOk came (λ x. new.state ≡ (try_settle rules old.settings now None old.state).state)

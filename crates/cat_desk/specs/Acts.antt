@@ -6,7 +6,7 @@ use Rattle.std.specs.declared.result.Result.{Result}
 use Rattle.std.specs.declared.result.Result.TheVariants.{Ok, Err}
 use Rattle.cat_core.specs.Answer.{core_fault, stop_answer}
 use Rattle.cat_core.specs.declared.fault.CoreFault.{CoreFault}
-use Rattle.cat_core.specs.declared.fault.CoreFault.TheVariants.{NoMemory}
+use Rattle.cat_core.specs.declared.fault.CoreFault.TheVariants.{Keeper, NoMemory}
 use Rattle.cat_core.specs.declared.fault.Cut.{Cut as CutSettle}
 use Rattle.cat_core.specs.declared.ledger.Ledger.{Ledger}
 use Rattle.cat_desk.specs.Deed.{Deed}
@@ -15,7 +15,7 @@ use Rattle.cat_desk.specs.declared.command.Reply.{Reply}
 use Rattle.cat_desk.specs.declared.command.Reply.TheVariants as replies
 use Rattle.cat_io.specs.Clock.{CountsReading}
 use Rattle.cat_table.specs.Table.{get}
-use Rattle.cat_loop.specs.Word.{Word, plain, memory, cut}
+use Rattle.cat_loop.specs.Word.{Word, plain, memory, cut, unkept}
 use Rattle.cat_model.specs.Catalogue.{Rules}
 use Rattle.cat_model.specs.Reply.{acted, finished, next_stitch, placed, taken}
 use Rattle.cat_model.specs.Settle.{try_settle}
@@ -44,11 +44,13 @@ done rules s now limit (TakeStitch after) m = m
 done rules s now limit (PutStitch order) m = step rules s (StitchPut order) m
 done rules s now limit Settle m = (try_settle rules s now limit m).state
 
--- The state after a deed, by its word: it stays for want of memory, and of a settle that was cut just the first events stand.
+-- The state after a deed, by its word: it stays for want of memory and where what would change wasn't kept, and of a settle that was cut just
+-- the first events stand.
 abbrev pub after_deed : Rules → Settings → ℕ → Word → Deed → State → State
 after_deed rules s now plain d m = done rules s now None d m
 after_deed rules s now memory d m = m
 after_deed rules s now (cut n) d m = done rules s now (Some n) d m
+after_deed rules s now unkept d m = m
 
 -- ---- what is answered
 
@@ -95,6 +97,7 @@ abbrev pub deed_reply : Rules → Settings → ℕ → Word → Deed → State �
 deed_reply rules s now plain d m = answered rules s now None d m
 deed_reply rules s now memory d m = replies.Refused NoMemory
 deed_reply rules s now (cut n) d m = answered rules s now (Some n) d m
+deed_reply rules s now unkept d m = replies.Refused Keeper
 
 -- ---- what takes no memory
 
@@ -120,6 +123,7 @@ abbrev pub IsExact : Rules → Settings → ℕ → State → Deed → Word → 
 IsExact rules s now m d plain = ⊤
 IsExact rules s now m d memory = ⊤
 IsExact rules s now m d (cut n) = (d ≡ Settle) × ((try_settle rules s now (Some n) m).events ≡ n)
+IsExact rules s now m d unkept = ⊤
 
 -- A deed was done to a catalogue at this moment, or lacked memory where it takes any, and this is the reply.
 pub record Acts (rules : Rules) (now : ℕ) (d : Deed) (old new : Ledger) (reply : Reply) : Type 0 where

@@ -8,7 +8,7 @@ ghost use Rattle.cat_desk.specs.declared.command.Reply.TheVariants as replies;
 use crate::asks::write_ask;
 use crate::command::{Asked, Command, Reply};
 use crate::desk::Desk;
-use cat_core::catalogue::{Catalogue, Done, Stitched};
+use cat_core::catalogue::{Catalogue, Done, Saved, Stitched};
 use cat_core::fault::{CoreFault, Cut};
 use cat_hold::layers::Layers;
 use cat_io::{Clock, FixedClock};
@@ -36,6 +36,15 @@ impl<L: Layers, C: Clock> Timed<L, C> {
         ensures { result.now ≡ self.now.catalogue }
     {
         &self.catalogue
+    }
+
+    /// Puts the catalogue back to what it held when it was saved. No memory is taken.
+    pub fn put_back(&mut self, saved: Saved<L>)
+        ensures state { self.new.catalogue.state ≡ saved }
+        ensures settings { self.new.catalogue.settings ≡ self.old.catalogue.settings }
+        ensures clock { self.new.clock ≡ self.old.clock }
+    {
+        self.catalogue.put_back(saved);
     }
 
     /// Does what a command says, which stays with the caller, and answers it with the moment at which it came.
@@ -98,8 +107,8 @@ impl<'a, L: Layers, C: Clock> Desk<Done<'a, L>, Stitched<'a, L>> for Timed<L, C>
     }
 }
 
-// Does what the command says at this moment.
-fn act<L: Layers>(
+/// Does what a command says at this moment, and answers it.
+pub fn act<L: Layers>(
     alloc: Global,
     catalogue: &mut Catalogue<L>,
     command: &Command<Done<'_, L>, Stitched<'_, L>>,

@@ -106,8 +106,8 @@ impl<'a, L: Layers, C: Clock> FeedDesk<Done<'a, L>, Stitched<'a, L>> for Fed<L, 
     }
 }
 
-// Asks the feed about the documents, and appends the text of the changes.
-fn tell(
+/// Asks a feed about the documents, and appends the text of the changes since a place. Only what is answered `Written` changes `out`.
+pub fn tell(
     alloc: Global,
     feed: &mut Feed,
     documents: &[(Ref, Node)],

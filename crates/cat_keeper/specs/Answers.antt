@@ -1,5 +1,5 @@
 -- What the answers of a keeper say of its tables and of its count of faults.
-use Rattle.std.specs.Prelude.{◌≡◌, ℕ, ⊤}
+use Rattle.std.specs.Prelude.{◌≡◌, ℕ, ⊤, option_map}
 use Rattle.std.specs.declared.option.Option.{Option}
 use Rattle.std.specs.declared.option.Option.TheVariants.{None, Some}
 use Rattle.cat_io.specs.Causes.{CountsFault}
@@ -14,11 +14,6 @@ abbrev pub Stays : Option Rows → Option Rows → Type 0
 Stays None new = ⊤
 Stays (Some rows) new = new ≡ Some rows
 
--- tables that are told become these
-abbrev pub Becomes : Option Rows → Option Rows → (Rows → Rows) → Type 0
-Becomes None new f = ⊤
-Becomes (Some rows) new f = new ≡ Some (f rows)
-
 -- tables that are told are these rows
 abbrev pub Are : Option Rows → Rows → Type 0
 Are None rows = ⊤
@@ -30,11 +25,11 @@ Loads old new (Given rows) = Stays old new × Are old rows × Are new rows
 Loads old new Failed = Stays old new
 Loads old new NoMemory = Stays old new
 
--- A commit that keeps a batch makes its changes to the tables, and another one none.
+-- A commit that keeps a batch makes its changes to the tables, and another one none. What wasn't told before isn't told after.
 abbrev pub Commits : Option Rows → Option Rows → Committed → Changes → Type 0
-Commits old new Kept batch = Becomes old new (applied batch)
-Commits old new NotKept batch = Stays old new
-Commits old new NoRoom batch = Stays old new
+Commits old new Kept batch = new ≡ option_map (applied batch) old
+Commits old new NotKept batch = new ≡ old
+Commits old new NoRoom batch = new ≡ old
 
 -- A load that failed counted one fault, and another counted none.
 abbrev pub CountsLoad : Loaded → ℕ → ℕ → Type 0

@@ -1,17 +1,20 @@
 -- What came of a line.
 use Rattle.std.specs.Prelude.{◌≡◌, ℕ, List}
 
--- A line acts; or it lacks memory and acts not; or what it does was cut for want of memory after so many events.
+-- A line acts; or it lacks memory and acts not; or what it does was cut for want of memory after so many events; or what it would change
+-- wasn't kept, and it acts not.
 pub data Word : Type 0 where
   plain : Word
   memory : Word
   cut : ℕ → Word
+  unkept : Word
 
--- the line acts, whole or in part
+-- the machine answers the line: it isn't answered for want of memory
 abbrev pub IsActing : Word → Type 0
 IsActing plain = Unit {0}
 IsActing memory = ⊥
 IsActing (cut n) = Unit {0}
+IsActing unkept = Unit {0}
 
 -- the state of a machine after a line with its word
 abbrev pub After : Type 0 → Type 0

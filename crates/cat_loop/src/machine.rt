@@ -6,8 +6,8 @@ ghost use Rattle.cat_loop.specs.Word.{Word, AnswersLine};
 use std::alloc::AllocError;
 
 /// What answers the lines of a session, seen by what it does with a line: the state after it, and the reply to it, its
-/// LF at the end. Both depend on the line's word, which says whether the line acted, lacked memory, or was cut for want
-/// of memory after so many events.
+/// LF at the end. Both depend on the line's word, which says whether the line acted, lacked memory, was cut for want
+/// of memory after so many events, or wasn't kept.
 ///
 /// A line whose word is `memory`, and one of over 8,388,608 bytes, is the loop's own matter: it is answered `no memory`
 /// or `refused long`, and the state stays. So what these functions say of such a line doesn't count.

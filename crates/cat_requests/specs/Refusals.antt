@@ -14,7 +14,7 @@ use Rattle.cat_replies.specs.Events.{counter_text}
 use Rattle.cat_requests.specs.declared.refusal.Methods.{Methods}
 use Rattle.cat_requests.specs.declared.refusal.Methods.TheVariants as methods
 use Rattle.cat_requests.specs.declared.refusal.Refusal.{Refusal}
-use Rattle.cat_requests.specs.declared.refusal.Refusal.TheVariants.{Route, Method, Entity, Shelf, Name, Text, Reference, Input, Query, Facet, Place, Gone, Ahead, OldSerial, TooLarge, Spent, CutByCounter, CutByMemory, SpentFeed, Reply, NoMemory}
+use Rattle.cat_requests.specs.declared.refusal.Refusal.TheVariants.{Route, Method, Entity, Shelf, Name, Text, Reference, Input, Query, Facet, Place, Gone, Ahead, OldSerial, TooLarge, Spent, CutByCounter, CutByMemory, SpentFeed, Reply, Keeper, NoMemory}
 
 -- the methods of a path
 abbrev pub methods_of : Methods → List (List ℕ)
@@ -50,6 +50,7 @@ status_of (CutByCounter events counter) = 500
 status_of (CutByMemory events) = 507
 status_of SpentFeed = 500
 status_of Reply = 500
+status_of Keeper = 503
 status_of NoMemory = 507
 
 -- why the bytes are no tree
@@ -98,6 +99,7 @@ words_of (CutByCounter events counter) = codes "spent " ∷ counter_text counter
 words_of (CutByMemory events) = codes "memory " ∷ decimal events ∷ []
 words_of SpentFeed = codes "spent feed" ∷ []
 words_of Reply = codes "reply" ∷ []
+words_of Keeper = codes "keeper" ∷ []
 words_of NoMemory = codes "memory" ∷ []
 
 -- ---- the faults of what is read

@@ -64,6 +64,8 @@ pub enum Refusal {
     SpentFeed,
     /// The desk answered what isn't asked of it.
     Reply,
+    /// What would change couldn't be kept: the keeper failed.
+    Keeper,
     /// Want of memory.
     NoMemory,
 }

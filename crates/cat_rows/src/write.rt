@@ -123,6 +123,20 @@ fn tree_text(alloc: Global, tree: &Tree) -> Result<Text, AllocError>
     }
 }
 
+/// The compact text of the tree that is the value of a row, whether the row can be stored or not. The error is want of memory.
+pub fn row_text(alloc: Global, row: &StoredRow) -> Result<Text, AllocError>
+    ensures { IfOk result (λ t. t ≡ text_of (text.row_data row.now)) }
+{
+    let tree = row_tree(alloc, row)?;
+    let mut out = Vec::new(alloc);
+    write(alloc, &tree, &mut out)?;
+    match String::from_utf8(out) {
+        Ok(text) => Ok(Text::from_string(text)),
+        // Trees are made of texts that are UTF-8, so their texts are: this arm isn't reached.
+        Err(_) => Err(AllocError),
+    }
+}
+
 /// The texts of a row that can be stored. No other row has them. The error is want of memory.
 pub fn write_row(alloc: Global, row: &StoredRow) -> Result<RowText, AllocError>
     requires { IsStorable row.now }

@@ -14,7 +14,7 @@ use Rattle.cat_desk.specs.Deed.{Deed}
 use Rattle.cat_desk.specs.Deed.Deed.{Mutate, ShelfPut, ShelfDrop, Refresh, Forget, Take, Finish, PutStitch, Settle}
 use Rattle.cat_desk.specs.declared.command.Reply.{Reply}
 use Rattle.cat_desk.specs.declared.command.Reply.TheVariants as replies
-use Rattle.cat_loop.specs.Word.{Word, IsActing, plain, memory, cut}
+use Rattle.cat_loop.specs.Word.{Word, IsActing, plain, memory, cut, unkept}
 use Rattle.cat_model.specs.Catalogue.{Rules}
 use Rattle.cat_model.specs.Given.{given}
 use Rattle.cat_model.specs.Reply.{acted, finished, placed, taken}
@@ -66,6 +66,7 @@ settle_line : (word : Word) → IsActing word → (p : Progress) → settle_repl
 settle_line plain acts p = stop_line p p.stop
 settle_line memory acts p = absurd acts
 settle_line (cut n) acts p = refl
+settle_line unkept acts p = stop_line p p.stop
 
 -- ---- lines and deeds
 

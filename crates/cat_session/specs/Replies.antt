@@ -28,6 +28,7 @@ fault_line (core.OldSerial last) = say.refused (OldSerial last)
 fault_line core.NotFound = say.refused NotFound
 fault_line (core.TooLarge sum) = say.refused (TooLarge sum)
 fault_line (core.Spent counter) = say.refused (Spent counter)
+fault_line core.Keeper = say.no_memory
 fault_line core.NoMemory = say.no_memory
 
 -- the line of a settle that was cut after so many events
@@ -36,6 +37,7 @@ cut_text events (core.OldSerial last) = say.cut_by_memory events
 cut_text events core.NotFound = say.cut_by_memory events
 cut_text events (core.TooLarge sum) = say.cut_by_memory events
 cut_text events (core.Spent counter) = say.cut_by_counter events counter
+cut_text events core.Keeper = say.cut_by_memory events
 cut_text events core.NoMemory = say.cut_by_memory events
 
 -- the line of a settle that was cut
@@ -56,8 +58,9 @@ reply_line (replies.Refused fault) = fault_line fault
 
 -- ---- which replies are said, and how long they are
 
--- a refusal is said, but want of memory is left to the loop
+-- a refusal is said, but want of memory is left to the loop, and a session's own catalogue is never refused by a keeper
 abbrev pub IsFaultSaid : CoreFault → Type 0
+IsFaultSaid core.Keeper = ⊥
 IsFaultSaid core.NoMemory = ⊥
 IsFaultSaid (core.OldSerial last) = ⊤
 IsFaultSaid core.NotFound = ⊤

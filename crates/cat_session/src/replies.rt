@@ -51,6 +51,7 @@ fn push_cut(out: &mut Vec<u8>, cut: Cut) -> Result<(), AllocError>
         CoreFault::OldSerial(_)
         | CoreFault::NotFound
         | CoreFault::TooLarge(_)
+        | CoreFault::Keeper
         | CoreFault::NoMemory => push_cut_by_memory(out, cut.events),
     }
 }
@@ -65,7 +66,7 @@ fn push_fault(out: &mut Vec<u8>, fault: CoreFault) -> Result<(), AllocError>
         CoreFault::NotFound => push_refused(out, Fault::NotFound),
         CoreFault::TooLarge(sum) => push_refused(out, Fault::TooLarge(sum)),
         CoreFault::Spent(counter) => push_refused(out, Fault::Spent(counter)),
-        CoreFault::NoMemory => Err(AllocError),
+        CoreFault::Keeper | CoreFault::NoMemory => Err(AllocError),
     }
 }
 

@@ -1,19 +1,23 @@
 //! A session's state, and its answer to a line.
-ghost use Rattle.std.specs.Prelude.{◌≡◌, ◌<◌, ◌^◌, IfOk, OnErr};
+ghost use Rattle.std.specs.Prelude.{◌≡◌, ◌<◌, ◌^◌, [], IfOk, IsTrue, OnErr};
+ghost use Rattle.std.specs.FinMap.Entries.{is_sorted};
 ghost use Rattle.cat_commands.specs.declared.line.Line.TheVariants as asks;
 ghost use Rattle.cat_commands.specs.Ready.{IsReady};
 ghost use Rattle.cat_desk.specs.Deed.{Deed, deed_of};
 ghost use Rattle.cat_loop.specs.Word.{AnswersLine};
 ghost use Rattle.cat_model.specs.Step.{next_taken};
 ghost use Rattle.cat_session.specs.Carried.{Carries, CarriesDeed, IsShort, Stays, order_taken};
-ghost use Rattle.cat_transcript.specs.Program.{ruled_after, ruled_reply, session_start};
+ghost use Rattle.cat_session.specs.Replies.{IsLineRefusal};
+ghost use Rattle.cat_transcript.specs.Program.{program_settings, ruled_after, ruled_reply, session_start};
+ghost use Rattle.cat_table.specs.Table.{text_cmp};
 ghost use Rattle.cat_transcript.specs.Session.{add_order};
 
 use crate::orders::{keep, keep_stitch, order_in, order_numbered, room_for, stitch_in};
 use crate::replies::{ROOM, ended, line_refused, push_reply, unknown};
+use cat_commands::fault::LineFault;
 use cat_commands::line::Line;
 use cat_commands::read::read_line;
-use cat_core::catalogue::{Catalogue, Done, Stitched};
+use cat_core::catalogue::{Catalogue, Done, Saved, Stitched};
 use cat_core::extra::take_ref;
 use cat_desk::command::Command;
 use cat_desk::desk::Desk;
@@ -21,7 +25,7 @@ use cat_desk::timed::Timed;
 use cat_hold::layers::Layers;
 use cat_io::FixedClock;
 use cat_loop::Machine;
-use cat_model::types::{Order, OrphanRule, Settings, StitchOrder};
+use cat_model::types::{Order, OrphanRule, Settings, State, StitchOrder};
 use cat_query::ask::Ask;
 use cat_ref::reference::Ref;
 use cat_replies::events::push_changed;
@@ -135,6 +139,55 @@ impl<L: Layers> Session<L> {
         }
     }
 
+    /// A session over a catalogue, at the moment 0, under the rule for orphans of its settings.
+    pub fn over(
+        alloc: Global,
+        layers: L,
+        catalogue: Catalogue<L>,
+        orphans: OrphanRule,
+    ) -> Session<L>
+        requires { catalogue.settings ≡ program_settings orphans }
+        ensures { result ≡ record { orphans = orphans; session = record { state = catalogue.state; now = 0; orders = []; stitches = [] } } }
+    {
+        Session {
+            alloc,
+            layers,
+            orphans,
+            desk: Timed::new(catalogue, FixedClock::at(0)),
+            orders: Vec::new(alloc),
+            stitches: Table::new(alloc),
+        }
+    }
+
+    /// What the catalogue holds, to be read.
+    pub fn view(&self) -> &State
+        ensures state { result.now ≡ self.now.session.state }
+        ensures records { IsTrue (is_sorted text_cmp result.now.records) }
+    {
+        self.desk.catalogue().view()
+    }
+
+    /// A copy of what the catalogue holds, to which the session can be put back. The only error is want of memory.
+    pub fn saved(&self) -> Result<Saved<L>, AllocError>
+        ensures { IfOk result (λ saved. saved ≡ self.now.session.state) }
+    {
+        self.desk.catalogue().saved(self.alloc)
+    }
+
+    /// Puts the catalogue back to what it held when it was saved. No memory is taken.
+    pub fn put_back(&mut self, saved: Saved<L>)
+        ensures { self.new ≡ record self.old { session = record self.old.session { state = saved } } }
+    {
+        self.desk.put_back(saved);
+    }
+
+    /// The reply to a line that is no command. The only error is want of memory.
+    pub fn refused(&self, fault: LineFault) -> Result<Vec<u8>, AllocError>
+        ensures { IfOk result (λ text. IsLineRefusal fault text.items) }
+    {
+        line_refused(self.alloc, fault)
+    }
+
     fn set_clock(&mut self, now: u64) -> Result<Vec<u8>, AllocError>
         requires { now < 2 ^ 53 }
         ensures ok { IfOk result (λ text. Carries L.rules (asks.Clock now) self.old self.new text.items) }
@@ -195,8 +248,8 @@ impl<L: Layers> Session<L> {
         ended(out, asked)
     }
 
-    // Carries out a line. For want of memory the session is as before.
-    fn carry_out(&mut self, line: Line) -> Result<Vec<u8>, AllocError>
+    /// Carries out a line, and gives the reply with an LF at the end. The only error is want of memory: the session is then as before.
+    pub fn carry_out(&mut self, line: Line) -> Result<Vec<u8>, AllocError>
         requires { IsReady line }
         ensures ok { IfOk result (λ text. Carries L.rules line self.old self.new text.items) }
         ensures err { OnErr result (self.new ≡ self.old) }
@@ -229,7 +282,7 @@ impl<L: Layers> Session<L> {
     {
         match read_line(self.alloc, line) {
             Ok(line) => self.carry_out(line),
-            Err(fault) => line_refused(self.alloc, fault),
+            Err(fault) => self.refused(fault),
         }
     }
 }

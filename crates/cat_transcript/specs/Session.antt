@@ -7,7 +7,7 @@ use Rattle.std.specs.declared.result.Result.TheVariants.{Ok, Err}
 use Rattle.std.specs.Ordering.{nat_cmp}
 use Rattle.cat_table.specs.Table.{find, put}
 use Rattle.cat_transcript.specs.declared.state.SessionState.{SessionState}
-use Rattle.cat_loop.specs.Word.{Word, plain, memory, cut}
+use Rattle.cat_loop.specs.Word.{Word, plain, memory, cut, unkept}
 use Rattle.cat_commands.specs.Lines.{line_of}
 use Rattle.cat_commands.specs.declared.line.Line.{Line}
 use Rattle.cat_commands.specs.declared.line.Line.TheVariants as asks
@@ -80,11 +80,12 @@ abbrev pub after_place : Rules → Settings → Option StitchOrder → SessionSt
 after_place rules s None m = m
 after_place rules s (Some x) m = after_event rules s (PutStitch x) m
 
--- a settle has no limit, but where it was cut for want of memory
+-- a settle has no limit, but where it was cut for want of memory; a session that keeps nothing takes a line whose change wasn't kept as one that acts
 abbrev pub limit_of : Word → Option ℕ
 limit_of plain = None
 limit_of memory = None
 limit_of (cut n) = Some n
+limit_of unkept = None
 
 -- how far the settle of a line comes, by the word of the line
 abbrev pub settled : Rules → Settings → Word → SessionState → Progress
@@ -163,6 +164,7 @@ abbrev pub settle_reply : Word → Progress → List ℕ
 settle_reply plain p = stop_reply p p.stop
 settle_reply memory p = stop_reply p p.stop
 settle_reply (cut n) p = say.cut_by_memory p.events
+settle_reply unkept p = stop_reply p p.stop
 
 -- the reply to a line that has a reading
 abbrev pub reply_to : Rules → Settings → Word → Line → SessionState → List ℕ

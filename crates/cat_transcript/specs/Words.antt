@@ -5,13 +5,14 @@ use Rattle.std.specs.declared.result.Result.TheVariants.{Ok}
 use Rattle.cat_commands.specs.declared.fault.LineFault.{LineFault}
 use Rattle.cat_commands.specs.declared.line.Line.{Line}
 use Rattle.cat_commands.specs.declared.line.Line.TheVariants as asks
-use Rattle.cat_loop.specs.Word.{Word, plain, memory, cut}
+use Rattle.cat_loop.specs.Word.{Word, plain, memory, cut, unkept}
 
 -- a settle that is cut counts its events in 64 bits
 abbrev pub IsCounted : Word → Type 0
 IsCounted plain = ⊤
 IsCounted memory = ⊤
 IsCounted (cut n) = n < 2 ^ 64
+IsCounted unkept = ⊤
 
 -- the line is a settle, or a question, whose answer may be any text
 abbrev pub MayBeCut : Result Line LineFault → Type 0

@@ -7,12 +7,13 @@ use Rattle.cat_wire.specs.Items.{Item, message, refusal}
 use Rattle.cat_wire.specs.Runs.{Answering, Lacking, memory_reply}
 
 -- A message acts; or it lacks memory and acts not; or what it does was cut for want of memory after so many events; or it acts, and
--- its reply lacks memory.
+-- its reply lacks memory; or what it would change wasn't kept, and it acts not.
 pub data Word : Type 0 where
   plain : Word
   memory : Word
   cut : ℕ → Word
   untold : Word
+  unkept : Word
 
 -- the machine answers a message with this word
 abbrev pub IsAnswered : Word → Type 0
@@ -20,6 +21,7 @@ IsAnswered plain = Unit {0}
 IsAnswered memory = ⊥
 IsAnswered (cut n) = Unit {0}
 IsAnswered untold = ⊥
+IsAnswered unkept = Unit {0}
 
 -- the state after a message with its word
 abbrev pub After : Type 0 → Type 0
@@ -43,6 +45,7 @@ item_after after a plain (message m) = after a plain m
 item_after after a memory (message m) = a
 item_after after a (cut n) (message m) = after a (cut n) m
 item_after after a untold (message m) = after a untold m
+item_after after a unkept (message m) = after a unkept m
 item_after after a word (refusal rule) = a
 
 -- the reply to an item with its word
@@ -51,6 +54,7 @@ item_reply reply a plain (message m) = reply a plain m
 item_reply reply a memory (message m) = memory_reply m
 item_reply reply a (cut n) (message m) = reply a (cut n) m
 item_reply reply a untold (message m) = memory_reply m
+item_reply reply a unkept (message m) = reply a unkept m
 item_reply reply a word (refusal rule) = reply_bytes (errors.refusal rule)
 
 -- the state after the items, each with its word

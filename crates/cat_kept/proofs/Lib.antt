@@ -1,0 +1,4 @@
+pub mod Deeds
+pub mod Followed
+pub mod Lines
+pub mod Sound

@@ -1,0 +1,33 @@
+-- A kept session stays sound.
+use Rattle.std.proofs.Common.{ℕ, List, [], ◌∷◌}
+use Rattle.cat_laws.proofs.Stands.{settle_keeps}
+use Rattle.cat_laws.proofs.Steps.{step_kept}
+use Rattle.cat_loop.proofs.Keeping.{Keeps, after_lines-keeps}
+use Rattle.cat_loop.specs.Runs.{after_lines}
+use Rattle.cat_loop.specs.Word.{Word, plain, memory, cut, unkept}
+use Rattle.cat_model.specs.Catalogue.{Rules}
+use Rattle.cat_model.specs.Sound.{Sound}
+use Rattle.cat_model.specs.declared.types.Settings.{Settings}
+use Rattle.cat_transcript.proofs.Kept.{after_kept}
+use Rattle.cat_transcript.specs.Program.{program_settings}
+use Rattle.cat_transcript.specs.Session.{session_after}
+use Rattle.cat_kept.specs.Kept.{kept_after}
+use Rattle.cat_kept.specs.declared.state.KeptState.{KeptState}
+
+module _ (rules : Rules) where
+  abbrev IsSound : KeptState → Type 0
+  IsSound m = Sound rules m.ruled.session.state
+
+  acted : (m : KeptState) (w : Word) (line : List ℕ) → IsSound m → Sound rules (session_after rules (program_settings m.ruled.orphans) m.ruled.session w line).state
+  acted m w line sound =
+      let s : Settings = program_settings m.ruled.orphans in
+      after_kept rules s (Sound rules) (step_kept rules s) (λ now limit n sound. (settle_keeps rules s now limit n).sound sound) m.ruled.session w line sound
+
+  keeps : Keeps (kept_after rules) IsSound
+  keeps m plain line sound = acted m plain line sound
+  keeps m memory line sound = acted m memory line sound
+  keeps m (cut n) line sound = acted m (cut n) line sound
+  keeps m unkept line sound = sound
+
+  pub lines_sound : (m : KeptState) (lines : List (List ℕ)) (words : List Word) → IsSound m → IsSound (after_lines (kept_after rules) m lines words)
+  lines_sound m lines words sound = after_lines-keeps (kept_after rules) IsSound keeps m sound lines words

@@ -1,0 +1,24 @@
+-- Deeds that leave the stored rows of a catalogue as they are.
+use Rattle.std.specs.Prelude.{◌≡◌, ℕ, Bool, true, false, nat_le, is_none}
+use Rattle.cat_core.specs.declared.ledger.Ledger.{Ledger}
+use Rattle.cat_desk.specs.Deed.{Deed}
+use Rattle.cat_desk.specs.Deed.Deed.{Mutate, ShelfPut, ShelfDrop, Refresh, Forget, ForgetNumber, Take, Finish, TakeStitch, PutStitch, Settle}
+use Rattle.cat_model.specs.Sound.{its_number}
+use Rattle.cat_model.specs.Step.{ref_at, source_at}
+use Rattle.cat_model.specs.declared.types.State.{State}
+use Rattle.cat_table.specs.Table.{get}
+
+-- Whether a deed leaves the stored rows as they are: a mutation whose serial isn't above the last one; a refresh, a take and what is done with
+-- stitch orders, since due moments, leases, marks and documents aren't stored; and what names a text, a reference or a number that isn't there.
+abbrev pub leaves_rows : Deed → State → Bool
+leaves_rows (Mutate provider x) m = nat_le x.serial (source_at (get m.providers provider)).serial
+leaves_rows (ShelfPut name text) m = false
+leaves_rows (ShelfDrop name) m = is_none (get m.shelf name)
+leaves_rows (Refresh r) m = true
+leaves_rows (Forget r) m = is_none (its_number m r)
+leaves_rows (ForgetNumber number) m = is_none (ref_at m number)
+leaves_rows Take m = true
+leaves_rows (Finish order) m = false
+leaves_rows (TakeStitch after) m = true
+leaves_rows (PutStitch order) m = true
+leaves_rows Settle m = false

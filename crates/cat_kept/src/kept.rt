@@ -1,0 +1,191 @@
+//! A session, and its store.
+ghost use Rattle.std.specs.Prelude.{◌≡◌, ◌≤◌, IfOk, OnErr};
+ghost use Rattle.cat_commands.specs.Ready.{IsReady};
+ghost use Rattle.cat_keeper.specs.Answers.{Are};
+ghost use Rattle.cat_kept.specs.Kept.{IsFollowed, MayChange, kept_after, kept_reply, refused_keeper};
+ghost use Rattle.cat_kept.specs.Carried.{CarriesKept, DoesLine};
+ghost use Rattle.cat_loop.specs.Word.{AnswersLine};
+ghost use Rattle.cat_session.specs.Carried.{Carries};
+ghost use Rattle.cat_tables.specs.Stored.{stored, texts_of};
+
+use cat_commands::line::Line;
+use cat_commands::read::read_line;
+use cat_hold::layers::Layers;
+use cat_keeper::keeper::{Committed, Keeper};
+use cat_loop::Machine;
+use cat_session::Session;
+use cat_store::store::Store;
+use std::alloc::{AllocError, Global};
+use std::marker::Model;
+
+/// A session over a catalogue, with the store that follows it. Its type keeps that a keeper which tells its tables holds those of the
+/// catalogue's state.
+#[derive(Drop)]
+pub struct KeptSession<L: Layers, K: Keeper> {
+    alloc: Global,
+    session: Session<L>,
+    store: Store<K>,
+    // how many lines weren't kept
+    refusals: u64,
+}
+
+impl<L: Layers, K: Keeper> Model for KeptSession<L, K> {
+    ghost use Rattle.std.specs.Prelude.{◌≤◌};
+    ghost use Rattle.cat_kept.specs.Kept.{IsFollowed};
+    ghost use Rattle.cat_kept.specs.contracts.state.KeptState.{the_row};
+    ghost use Rattle.cat_kept.specs.declared.state.KeptState.{KeptState};
+
+    ghost Value = { KeptState };
+
+    ghost coded = { the_row.coded };
+
+    ghost view = { λ a. record { ruled = a.session; place = a.store.place; refusals = a.refusals } };
+
+    ghost invariant = { λ a. IsFollowed (K.tables a.store.place a.store.keeper) a.store.orphans a.store.rows a.session.orphans a.session.session.state × (a.refusals ≤ K.faults a.store.keeper) };
+}
+
+// The reply to a line whose change wasn't kept.
+fn refusal(alloc: Global) -> Result<Vec<u8>, AllocError>
+    ensures { IfOk result (λ text. text.items ≡ refused_keeper) }
+{
+    Vec::from_slice(alloc, b"refused keeper\n")
+}
+
+// Whether a line may change the stored rows. Due moments, leases, marks and documents aren't stored.
+fn may_change(line: &Line) -> bool
+    ensures { DoesLine line.now result }
+{
+    match line {
+        Line::Mutate(..)
+        | Line::ShelfPut(..)
+        | Line::ShelfDrop(_)
+        | Line::Forget(_)
+        | Line::Finish(_)
+        | Line::Settle => true,
+        Line::Refresh(_)
+        | Line::Clock(_)
+        | Line::Take
+        | Line::Stitch(_)
+        | Line::Place(_)
+        | Line::Ask(_) => false,
+    }
+}
+
+// Carries out a line that may not change the stored rows.
+fn pass<L: Layers>(session: &mut Session<L>, line: Line) -> Result<Vec<u8>, AllocError>
+    requires ready { IsReady line }
+    requires stays { MayChange line → ⊥ }
+    ensures ok { IfOk result (λ text. Carries L.rules line session.old session.new text.items) }
+    ensures err { OnErr result (session.new ≡ session.old) }
+    ensures rule { session.new.orphans ≡ session.old.orphans }
+    ensures rows { stored session.old.orphans session.new.session.state ≡ stored session.old.orphans session.old.session.state }
+{
+    let _state = session.view();
+    session.carry_out(line)
+}
+
+// Carries out a line that may change the stored rows, and has the store follow. For want of memory all is as before.
+fn follow<L: Layers, K: Keeper>(
+    alloc: Global,
+    session: &mut Session<L>,
+    store: &mut Store<K>,
+    refusals: &mut u64,
+    line: Line,
+) -> Result<Vec<u8>, AllocError>
+    requires ready { IsReady line }
+    requires changes { MayChange line }
+    requires followed { IsFollowed (K.tables store.old.place store.old.keeper) store.old.orphans store.old.rows session.old.orphans session.old.session.state }
+    ensures ok { IfOk result (λ text. CarriesKept L.rules line session.old session.new refusals.old refusals.new text.items) }
+    ensures err { OnErr result ((session.new ≡ session.old) × (refusals.new ≡ refusals.old)) }
+    // A line that isn't kept is one more than before, and so is the keeper's count of faults.
+    ensures cause { refusals.old ≤ K.faults store.old.keeper → refusals.new ≤ K.faults store.new.keeper }
+    ensures followed { IsFollowed (K.tables store.new.place store.new.keeper) store.new.orphans store.new.rows session.new.orphans session.new.session.state }
+    ensures place { store.new.place ≡ store.old.place }
+{
+    let saved = session.saved()?;
+    let refused = refusal(alloc)?;
+    let text = session.carry_out(line)?;
+    match store.follow(alloc, session.view()) {
+        Committed::Kept => Ok(text),
+        Committed::Failed => {
+            session.put_back(saved);
+            *refusals = refusals.saturating_add(1);
+            Ok(refused)
+        }
+        Committed::NoMemory => {
+            session.put_back(saved);
+            Err(AllocError)
+        }
+    }
+}
+
+// Reads a line and carries it out, or says why it is refused. For want of memory all is as before.
+fn answer_line<L: Layers, K: Keeper>(
+    alloc: Global,
+    session: &mut Session<L>,
+    store: &mut Store<K>,
+    refusals: &mut u64,
+    line: &[u8],
+) -> Result<Vec<u8>, AllocError>
+    requires { IsFollowed (K.tables store.old.place store.old.keeper) store.old.orphans store.old.rows session.old.orphans session.old.session.state }
+    ensures ok { IfOk result (λ text. AnswersLine (kept_after L.rules) (kept_reply L.rules) (record { ruled = session.old; place = store.old.place; refusals = refusals.old })
+        (record { ruled = session.new; place = store.new.place; refusals = refusals.new }) line.now text.items) }
+    ensures err { OnErr result ((session.new ≡ session.old) × (refusals.new ≡ refusals.old)) }
+    ensures cause { refusals.old ≤ K.faults store.old.keeper → refusals.new ≤ K.faults store.new.keeper }
+    ensures followed { IsFollowed (K.tables store.new.place store.new.keeper) store.new.orphans store.new.rows session.new.orphans session.new.session.state }
+    ensures place { store.new.place ≡ store.old.place }
+{
+    match read_line(alloc, line) {
+        Ok(line) => {
+            if may_change(&line) {
+                follow(alloc, session, store, refusals, line)
+            } else {
+                pass(session, line)
+            }
+        }
+        Err(fault) => session.refused(fault),
+    }
+}
+
+impl<L: Layers, K: Keeper> KeptSession<L, K> {
+    /// A session with a store that follows it. It takes no memory.
+    pub fn new(alloc: Global, session: Session<L>, store: Store<K>) -> KeptSession<L, K>
+        requires { IsFollowed (K.tables store.place store.keeper) store.orphans store.rows session.orphans session.session.state }
+        ensures { result ≡ record { ruled = session; place = store.place; refusals = 0 } }
+    {
+        KeptSession {
+            alloc,
+            session,
+            store,
+            refusals: 0,
+        }
+    }
+}
+
+impl<L: Layers + Drop, K: Keeper> KeptSession<L, K> {
+    /// The keeper, which holds the tables of the state in which the session ended, where it tells them. It has counted at least as many faults
+    /// as there were lines that weren't kept.
+    pub fn into_keeper(self) -> K
+        ensures faults { self.refusals ≤ K.faults result }
+        ensures told { Are (K.tables self.place result) (texts_of (stored self.ruled.orphans self.ruled.session.state)) }
+    {
+        let store = self.store;
+        store.keeper
+    }
+}
+
+impl<L: Layers, K: Keeper> Machine for KeptSession<L, K> {
+    ghost after = { kept_after L.rules };
+
+    ghost reply = { kept_reply L.rules };
+
+    fn answer(&mut self, line: &[u8]) -> Result<Vec<u8>, AllocError> {
+        answer_line(
+            self.alloc,
+            &mut self.session,
+            &mut self.store,
+            &mut self.refusals,
+            line,
+        )
+    }
+}

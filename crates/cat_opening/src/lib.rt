@@ -1,0 +1,22 @@
+//! From the rows of a store to the state that they stand for, or the first row that has no reading or breaks a rule.
+//!
+//! Stores of both versions are read. The rules are asked of the rows that have a reading: a row that has none counts for no
+//! other row, but that it is there. Of two rows with one number both break a rule, so the first of them is named. A row that
+//! is missing is named in the place where it would stand.
+//!
+//! It stands on cat_rows for the texts of rows, on cat_schema and cat_kinds for the rules of the descriptor format, and on
+//! cat_model for the state. What it gives is a candidate: nothing here says that it is sound, but that it is at its start.
+#![tactic(auto)]
+
+mod arrivals;
+pub mod candidate;
+mod entity;
+mod limit;
+mod roots;
+mod rules;
+mod state;
+mod stored;
+#[cfg(test)]
+mod tests;
+mod trees;
+pub mod types;

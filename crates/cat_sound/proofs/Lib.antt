@@ -1,0 +1,9 @@
+pub mod Climbing
+pub mod Found
+pub mod Held
+pub mod Linking
+pub mod Numbering
+pub mod Offering
+pub mod Opening
+pub mod Reopening
+pub mod Stitching

@@ -1,0 +1,4 @@
+pub mod Above
+pub mod Candidate
+pub mod Indexed
+pub mod Plain

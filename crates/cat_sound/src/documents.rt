@@ -1,0 +1,60 @@
+//! The documents of a candidate.
+ghost use Rattle.std.specs.Prelude.{◌≡◌, IfOk, option_map};
+ghost use Rattle.cat_table.specs.Table.{tabulate, text_cmp};
+ghost use Rattle.cat_model.specs.Catalogue.{known_refs, parts};
+ghost use Rattle.cat_frame.specs.Linked.{AreLinked, AreRecorded, linked_parts};
+
+use cat_frame::marks::all_refs;
+use cat_frame::parts::parts_of;
+use cat_hold::build::{Gives, tabulated};
+use cat_hold::layers::Layers;
+use cat_links::links::Links;
+use cat_model::types::State;
+use cat_ref::reference::Ref;
+use cat_types::node::Node;
+use cat_types::table::Table;
+use std::alloc::{AllocError, Global};
+
+// Each reference with parts has the document of them.
+#[derive(Drop)]
+struct Stitched<'a, L> {
+    layers: &'a L,
+    links: &'a Links,
+    m: &'a State,
+}
+
+impl<L: Layers> Gives<Ref, Node> for Stitched<'_, L> {
+    ghost gives = { λ s r. option_map L.rules.doc (linked_parts L.rules s.links.now s.m.now r) };
+
+    fn give(&self, alloc: Global, key: &Ref) -> Result<Option<Node>, AllocError> {
+        let m = self.m;
+        let parts = parts_of(
+            alloc,
+            self.layers,
+            self.links,
+            key,
+            m.orphans.get(key),
+            m.records.get(key),
+        )?;
+        match parts {
+            None => Ok(None),
+            Some(parts) => Ok(Some(self.layers.doc(alloc, &parts)?)),
+        }
+    }
+}
+
+/// The document of each reference that has parts.
+pub fn documents_of<L: Layers>(
+    alloc: Global,
+    layers: &L,
+    links: &Links,
+    m: &State,
+) -> Result<Table<Ref, Node>, AllocError>
+    requires linked { AreLinked L.rules links.now m.now }
+    requires recorded { AreRecorded m.now }
+    ensures { IfOk result (λ t. t ≡ tabulate text_cmp (known_refs m.now) (λ r. option_map L.rules.doc (parts L.rules m.now r))) }
+{
+    let all = all_refs(alloc, m)?;
+    let stitched = Stitched { layers, links, m };
+    tabulated(alloc, all.as_slice(), &stitched)
+}

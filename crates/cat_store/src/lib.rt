@@ -1,0 +1,13 @@
+//! A catalogue's store: what a keeper has of a catalogue's state, how it follows each change, and how a catalogue is opened from it.
+//!
+//! A `Store` has the rows of the state that it follows, so that what a change reaches is told by comparing rows, and only rows that
+//! differ are written. A commit is one batch; where it is refused the rows are as before. A store is opened by reading its rows
+//! (cat_opening), testing what was read (cat_sound), and comparing the rows of that state with those that were read (cat_tables), so
+//! that nobody has to believe the reading.
+//!
+//! It stands on cat_keeper for keepers, and on the three crates named. It carries the promise that a keeper which tells its tables
+//! holds those of the state that was last followed, and that a store of the second version opens as a state whose rows it has.
+#![tactic(auto)]
+
+pub mod open;
+pub mod store;

@@ -1,0 +1,5 @@
+pub mod Leading
+pub mod Putting
+pub mod Sames
+pub mod Telling
+pub mod Walking
