@@ -58,7 +58,7 @@ module _ (rules : Rules) (s : Settings) (now : ℕ) (limit : Option ℕ) (m : St
 
 -- ---- what a catalogue did
 
--- the deed was done, whole or in part, or wasn't kept
+-- the deed was done, whole or in part
 abbrev pub IsDone : Word → Type 0
 IsDone plain = Unit {0}
 IsDone memory = ⊥
@@ -84,7 +84,7 @@ module _ (rules : Rules) (now : ℕ) (d : Deed) (old new : Ledger) (reply : Repl
   stayed_by plain state answer wants = let e : true ≡ false = sym wants ∙ ap lacks_memory answer ∙ answer_tells rules old.settings now None old.state d in cc
   stayed_by memory state answer wants = state
   stayed_by (cut n) state answer wants = let e : true ≡ false = sym wants ∙ ap lacks_memory answer ∙ answer_tells rules old.settings now (Some n) old.state d in cc
-  stayed_by unkept state answer wants = let e : true ≡ false = sym wants ∙ ap lacks_memory answer in cc
+  stayed_by unkept state answer wants = let e : true ≡ false = sym wants ∙ ap lacks_memory answer ∙ answer_tells rules old.settings now None old.state d in cc
 
 module _ (rules : Rules) (now : ℕ) (d : Deed) (old new : Ledger) (reply : Reply) where
   -- what is told was done

@@ -15,5 +15,3 @@ pub mod kind;
 mod room;
 pub mod service;
 pub mod task;
-#[cfg(test)]
-mod tests;

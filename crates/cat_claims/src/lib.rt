@@ -15,7 +15,5 @@ pub mod fault;
 mod order;
 mod rows;
 pub mod tables;
-#[cfg(test)]
-mod tests;
 pub mod turn;
 mod waiting;

@@ -12,5 +12,3 @@ pub mod line;
 pub mod query;
 pub mod read;
 pub mod references;
-#[cfg(test)]
-mod tests;

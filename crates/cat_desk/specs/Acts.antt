@@ -6,7 +6,7 @@ use Rattle.std.specs.declared.result.Result.{Result}
 use Rattle.std.specs.declared.result.Result.TheVariants.{Ok, Err}
 use Rattle.cat_core.specs.Answer.{core_fault, stop_answer}
 use Rattle.cat_core.specs.declared.fault.CoreFault.{CoreFault}
-use Rattle.cat_core.specs.declared.fault.CoreFault.TheVariants.{Keeper, NoMemory}
+use Rattle.cat_core.specs.declared.fault.CoreFault.TheVariants.{NoMemory}
 use Rattle.cat_core.specs.declared.fault.Cut.{Cut as CutSettle}
 use Rattle.cat_core.specs.declared.ledger.Ledger.{Ledger}
 use Rattle.cat_desk.specs.Deed.{Deed}
@@ -44,13 +44,13 @@ done rules s now limit (TakeStitch after) m = m
 done rules s now limit (PutStitch order) m = step rules s (StitchPut order) m
 done rules s now limit Settle m = (try_settle rules s now limit m).state
 
--- The state after a deed, by its word: it stays for want of memory and where what would change wasn't kept, and of a settle that was cut just
--- the first events stand.
+-- The state after a deed, by its word: it stays for want of memory, and of a settle that was cut just the first events stand. A catalogue
+-- refuses nothing that it would keep, so any other word says that the deed was done.
 abbrev pub after_deed : Rules → Settings → ℕ → Word → Deed → State → State
 after_deed rules s now plain d m = done rules s now None d m
 after_deed rules s now memory d m = m
 after_deed rules s now (cut n) d m = done rules s now (Some n) d m
-after_deed rules s now unkept d m = m
+after_deed rules s now unkept d m = done rules s now None d m
 
 -- ---- what is answered
 
@@ -97,7 +97,7 @@ abbrev pub deed_reply : Rules → Settings → ℕ → Word → Deed → State �
 deed_reply rules s now plain d m = answered rules s now None d m
 deed_reply rules s now memory d m = replies.Refused NoMemory
 deed_reply rules s now (cut n) d m = answered rules s now (Some n) d m
-deed_reply rules s now unkept d m = replies.Refused Keeper
+deed_reply rules s now unkept d m = answered rules s now None d m
 
 -- ---- what takes no memory
 

@@ -17,8 +17,6 @@ mod hall;
 mod host;
 mod memory;
 mod tcp;
-#[cfg(test)]
-mod tests;
 
 pub use counted::CountedDoors;
 pub use doors::{Accepted, Connection, Doors, Listened};

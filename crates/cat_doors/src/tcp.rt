@@ -63,13 +63,6 @@ impl<'a, R: Net<Listener = TcpListener, Stream = TcpStream>> TcpDoors<'a, R> {
     fn next_conn(&self) -> Option<TcpConn<TcpStream>> {
         conn_of(next_stream(self.listener.as_ref()?)?)
     }
-
-    // The port on which connections may come, if the doors listen and the system tells it.
-    #[cfg(test)]
-    pub(crate) fn port(&self) -> Option<u16> {
-        let address = self.listener.as_ref()?.local_addr().ok()?;
-        Some(address.port())
-    }
 }
 
 // The connection over a stream that was accepted, if the system gives a second handle of it. Where it refuses to bound the waiting of the

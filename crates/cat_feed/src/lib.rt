@@ -16,5 +16,3 @@ mod differences;
 pub mod fault;
 pub mod feed;
 mod ledger;
-#[cfg(test)]
-mod tests;

@@ -16,8 +16,6 @@
 mod answering;
 mod crew;
 mod share;
-#[cfg(test)]
-mod tests;
 mod working;
 
 pub use answering::Answering;

@@ -19,5 +19,3 @@ pub mod head;
 pub mod message;
 pub mod reply;
 pub mod request_target;
-#[cfg(test)]
-mod tests;

@@ -12,8 +12,6 @@ pub mod form;
 pub mod input;
 pub mod refs;
 pub mod shelf;
-#[cfg(test)]
-mod tests;
 pub mod text;
 
 pub use cat_types::input::{Item, Mutation};

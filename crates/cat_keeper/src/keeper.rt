@@ -14,8 +14,10 @@ use std::alloc::Global;
 pub enum Place {
     /// Nowhere: nothing outlives the program.
     Nowhere,
-    /// The file of this name.
+    /// The database in the file of this name.
     File(Text),
+    /// The journal in the file of this name.
+    Journal(Text),
 }
 
 /// What a load gives.

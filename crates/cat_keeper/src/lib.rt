@@ -14,5 +14,3 @@ pub mod keeper;
 pub mod memory;
 pub mod rows;
 pub mod table;
-#[cfg(test)]
-mod tests;

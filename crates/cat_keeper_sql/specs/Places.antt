@@ -4,7 +4,7 @@ use Rattle.std.specs.declared.option.Option.{Option}
 use Rattle.std.specs.declared.option.Option.TheVariants.{None, Some}
 use Rattle.cat_keeper.specs.Store.{Rows}
 use Rattle.cat_keeper.specs.declared.keeper.Place.{Place}
-use Rattle.cat_keeper.specs.declared.keeper.Place.TheVariants.{Nowhere, File as AtFile}
+use Rattle.cat_keeper.specs.declared.keeper.Place.TheVariants.{Nowhere, File as AtFile, Journal}
 use Rattle.cat_keeper_sql.specs.declared.place.Store.{Store}
 use Rattle.cat_keeper_sql.specs.declared.place.Store.TheVariants.{Memory, File, Closed}
 
@@ -29,3 +29,4 @@ failing_in Closed = []
 abbrev pub told : Place → PlaceState → Option Rows
 told Nowhere k = k.rows
 told (AtFile path) k = None
+told (Journal path) k = None

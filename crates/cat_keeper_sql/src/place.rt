@@ -20,11 +20,11 @@ pub trait Opener {
     /// What keeps the rows of a file that was opened.
     type Opened: Keeper + Drop;
 
-    /// Opens the file of this name, which is made if it isn't there.
-    fn open(&self, path: &str) -> Result<Self::Opened, Refusal>;
+    /// Opens the file of a place, which is made if it isn't there. For nowhere it fails.
+    fn open(&self, alloc: Global, place: &Place) -> Result<Self::Opened, Refusal>;
 }
 
-/// Opens databases of SQLite in files.
+/// Opens databases of SQLite in files, and no journals.
 ///
 /// Beside a file lies its log, whose name ends in `-wal`: both belong together. While a file is open no other program can write
 /// it, and sqlite3 finds it locked. What a commit changes is on the disk once it is answered `Kept`: each commit syncs the log,
@@ -45,8 +45,11 @@ impl SqlFiles {
 impl Opener for SqlFiles {
     type Opened = SqlKeeper<FileStore<File>>;
 
-    fn open(&self, path: &str) -> Result<SqlKeeper<FileStore<File>>, Refusal> {
-        let connection = Connection::open(&self.rt, path)?;
+    fn open(&self, _alloc: Global, place: &Place) -> Result<SqlKeeper<FileStore<File>>, Refusal> {
+        let Place::File(path) = place else {
+            return Err(Refusal::Failed);
+        };
+        let connection = Connection::open(&self.rt, path.as_str())?;
         Ok(SqlKeeper::over(connection))
     }
 }
@@ -145,12 +148,12 @@ impl<O: Opener> PlaceKeeper<O> {
     }
 
     // Opens a file, and gives its rows.
-    fn load_file(&mut self, alloc: Global, place: &Place, path: &str) -> Loaded
+    fn load_file(&mut self, alloc: Global, place: &Place) -> Loaded
         ensures rows { self.new.rows ≡ None }
         ensures same { self.new.faults ≡ self.old.faults }
     {
         self.store = Store::Closed;
-        match self.opener.open(path) {
+        match self.opener.open(alloc, place) {
             Ok(keeper) => self.load_opened(alloc, place, keeper),
             Err(Refusal::NoMemory) => Loaded::NoMemory,
             Err(Refusal::Failed) => Loaded::Failed,
@@ -165,7 +168,7 @@ impl<O: Opener> PlaceKeeper<O> {
     {
         match place {
             Place::Nowhere => self.load_memory(alloc, place),
-            Place::File(path) => self.load_file(alloc, place, path.as_str()),
+            Place::File(_) | Place::Journal(_) => self.load_file(alloc, place),
         }
     }
 

@@ -84,4 +84,4 @@ module _ (rules : Rules) (s : Settings) (rule : OrphanRule) (now : ℕ) (m : Sta
   deed_still plain d h = done_still None d h
   deed_still memory d h = refl
   deed_still (cut n) d h = done_still (Some n) d h
-  deed_still unkept d h = refl
+  deed_still unkept d h = done_still None d h

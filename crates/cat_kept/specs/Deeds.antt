@@ -1,12 +1,18 @@
--- Deeds that leave the stored rows of a catalogue as they are.
-use Rattle.std.specs.Prelude.{◌≡◌, ℕ, Bool, true, false, nat_le, is_none}
+-- Deeds of a catalogue that is kept, and those that leave its stored rows as they are.
+use Rattle.std.specs.Prelude.{◌≡◌, ◌⊎◌, ℕ, Bool, true, false, nat_le, is_none}
+use Rattle.cat_core.specs.declared.fault.CoreFault.TheVariants.{Keeper}
 use Rattle.cat_core.specs.declared.ledger.Ledger.{Ledger}
+use Rattle.cat_desk.specs.Acts.{Acts}
 use Rattle.cat_desk.specs.Deed.{Deed}
 use Rattle.cat_desk.specs.Deed.Deed.{Mutate, ShelfPut, ShelfDrop, Refresh, Forget, ForgetNumber, Take, Finish, TakeStitch, PutStitch, Settle}
+use Rattle.cat_desk.specs.declared.command.Reply.{Reply}
+use Rattle.cat_desk.specs.declared.command.Reply.TheVariants.{Refused}
+use Rattle.cat_model.specs.Catalogue.{Rules}
 use Rattle.cat_model.specs.Sound.{its_number}
 use Rattle.cat_model.specs.Step.{ref_at, source_at}
 use Rattle.cat_model.specs.declared.types.State.{State}
 use Rattle.cat_table.specs.Table.{get}
+use Rattle.cat_kept.specs.Kept.{one_more}
 
 -- Whether a deed leaves the stored rows as they are: a mutation whose serial isn't above the last one; a refresh, a take and what is done with
 -- stitch orders, since due moments, leases, marks and documents aren't stored; and what names a text, a reference or a number that isn't there.
@@ -22,3 +28,15 @@ leaves_rows (Finish order) m = false
 leaves_rows (TakeStitch after) m = true
 leaves_rows (PutStitch order) m = true
 leaves_rows Settle m = false
+
+-- A deed that may change the stored rows wasn't kept: it is one more of those, it is answered so, and the catalogue is as before.
+pub record IsUnkept (d : Deed) (old new : Ledger) (count count' : ℕ) (reply : Reply) : Type 0 where
+  pub changes : leaves_rows d old.state ≡ false
+  pub state : new.state ≡ old.state
+  pub settings : new.settings ≡ old.settings
+  pub counted : count' ≡ one_more count
+  pub answer : reply ≡ Refused Keeper
+
+-- A deed was done to a catalogue at this moment as to one that isn't kept, or it wasn't kept; the counts are of those that weren't.
+abbrev pub KeptActs : Rules → ℕ → Deed → Ledger → Ledger → ℕ → ℕ → Reply → Type 0
+KeptActs rules now d old new count count' reply = (Acts rules now d old new reply × (count' ≡ count)) ⊎ IsUnkept d old new count count' reply

@@ -10,7 +10,5 @@
 pub mod answer;
 pub mod law;
 pub mod mention;
-#[cfg(test)]
-mod tests;
 
 pub use cat_types::relation::{RelKind, Relation};

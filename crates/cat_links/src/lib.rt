@@ -14,5 +14,3 @@ mod counts;
 pub mod links;
 mod moved;
 mod order;
-#[cfg(test)]
-mod tests;

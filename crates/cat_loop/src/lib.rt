@@ -12,8 +12,6 @@
 mod buffer;
 mod line_loop;
 mod machine;
-#[cfg(test)]
-mod tests;
 
 pub use buffer::{LINE_LIMIT, lines_are_those_of_std};
 pub use line_loop::{SessionEnd, session};

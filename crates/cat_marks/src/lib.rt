@@ -9,5 +9,3 @@
 pub mod answers;
 pub mod marks;
 mod places;
-#[cfg(test)]
-mod tests;

@@ -9,5 +9,3 @@
 
 pub mod law;
 pub mod mirror;
-#[cfg(test)]
-mod tests;

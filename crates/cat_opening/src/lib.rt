@@ -16,7 +16,5 @@ mod roots;
 mod rules;
 mod state;
 mod stored;
-#[cfg(test)]
-mod tests;
 mod trees;
 pub mod types;

@@ -15,5 +15,3 @@ pub mod law;
 pub mod message;
 pub mod offers;
 pub mod result;
-#[cfg(test)]
-mod tests;

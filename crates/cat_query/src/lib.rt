@@ -24,5 +24,3 @@ pub mod project;
 pub mod query;
 mod rank;
 pub mod read;
-#[cfg(test)]
-mod tests;

@@ -12,6 +12,4 @@
 mod lease;
 mod place;
 pub mod records;
-#[cfg(test)]
-mod tests;
 pub mod view;

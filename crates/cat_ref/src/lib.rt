@@ -14,5 +14,3 @@ pub mod fault;
 pub mod names;
 pub mod reference;
 pub mod split;
-#[cfg(test)]
-mod tests;

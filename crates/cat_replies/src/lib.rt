@@ -11,5 +11,3 @@ pub mod events;
 pub mod faults;
 pub mod line;
 pub mod lists;
-#[cfg(test)]
-mod tests;

@@ -14,6 +14,4 @@ mod parameters;
 pub mod path;
 pub mod refusal;
 pub mod request;
-#[cfg(test)]
-mod tests;
 pub mod uid;

@@ -16,7 +16,5 @@ pub mod names;
 mod parse;
 pub mod read;
 pub mod row;
-#[cfg(test)]
-mod tests;
 mod tree;
 pub mod write;

@@ -5,5 +5,3 @@
 #![tactic(auto)]
 
 pub mod same;
-#[cfg(test)]
-mod tests;

@@ -10,7 +10,5 @@
 mod generate;
 mod settled;
 mod summary;
-#[cfg(test)]
-mod tests;
 
 pub use settled::sample;

@@ -15,5 +15,3 @@ pub mod field;
 pub mod form;
 pub mod kind;
 pub mod rules;
-#[cfg(test)]
-mod tests;

@@ -23,7 +23,5 @@ pub mod pieces;
 pub mod read;
 pub mod sets;
 pub mod terms;
-#[cfg(test)]
-mod tests;
 pub mod values;
 pub mod walk;

@@ -12,8 +12,6 @@
 mod helper;
 mod running;
 mod serving;
-#[cfg(test)]
-mod tests;
 
 pub use helper::{Helper, Server, Worker};
 pub use running::Running;

@@ -97,20 +97,20 @@ module _ (rules : Rules) (now : ℕ) (d : Deed) (old new : Ledger) (reply : Repl
   shows_none plain answer h = ap shown answer ∙ answer_short rules old.settings now None old.state d h
   shows_none memory answer h = ap shown answer
   shows_none (cut n) answer h = ap shown answer ∙ answer_short rules old.settings now (Some n) old.state d h
-  shows_none unkept answer h = ap shown answer
+  shows_none unkept answer h = ap shown answer ∙ answer_short rules old.settings now None old.state d h
 
   unsaid : (word : Word) → new.state ≡ after_deed rules old.settings now word d old.state → reply ≡ deed_reply rules old.settings now word d old.state → (IsSaid reply → ⊥) → Stays old new
   unsaid plain state answer no_one = absurd (no_one (subst IsSaid (sym answer) (answer_said rules old.settings now None old.state d)))
   unsaid memory state answer no_one = record { state = state; settings = same }
   unsaid (cut n) state answer no_one = absurd (no_one (subst IsSaid (sym answer) (answer_said rules old.settings now (Some n) old.state d)))
-  unsaid unkept state answer no_one = record { state = state; settings = same }
+  unsaid unkept state answer no_one = absurd (no_one (subst IsSaid (sym answer) (answer_said rules old.settings now None old.state d)))
 
   said : (word : Word) → new.state ≡ after_deed rules old.settings now word d old.state → reply ≡ deed_reply rules old.settings now word d old.state → IsSaid reply
       → (text : List ℕ) → text ≡ reply_line reply → CarriesDeed rules now d old new text
   said plain state answer h text told = record { word = plain; acts = tt; state = state; settings = same; says = told ∙ ap reply_line answer }
   said memory state answer h text told = absurd (subst IsSaid answer h)
   said (cut n) state answer h text told = record { word = cut n; acts = tt; state = state; settings = same; says = told ∙ ap reply_line answer }
-  said unkept state answer h text told = absurd (subst IsSaid answer h)
+  said unkept state answer h text told = record { word = plain; acts = tt; state = state; settings = same; says = told ∙ ap reply_line answer }
 
 module _ (rules : Rules) (now : ℕ) (d : Deed) (old new : Ledger) (reply : Reply) where
   -- the reply to a short deed shows no reference

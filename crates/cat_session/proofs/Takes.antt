@@ -35,7 +35,7 @@ module _ (rules : Rules) (now : ℕ) (old : Ledger) (reply : Reply) where
   order_by plain answer h = ap order_in answer ∙ order_of (refusal rules old.settings (Taken now) old.state) (model.taken rules old.settings now old.state)
   order_by memory answer h = absurd (subst IsSaid answer h)
   order_by (cut n) answer h = ap order_in answer ∙ order_of (refusal rules old.settings (Taken now) old.state) (model.taken rules old.settings now old.state)
-  order_by unkept answer h = absurd (subst IsSaid answer h)
+  order_by unkept answer h = ap order_in answer ∙ order_of (refusal rules old.settings (Taken now) old.state) (model.taken rules old.settings now old.state)
 
   -- the order that the reply to a take gives
   pub order_given : (new : Ledger) → Acts rules now Take old new reply → IsSaid reply → order_in reply ≡ order_taken rules now old
@@ -45,7 +45,7 @@ module _ (rules : Rules) (now : ℕ) (old : Ledger) (reply : Reply) where
   stitch_by after plain answer h = ap stitch_in answer
   stitch_by after memory answer h = absurd (subst IsSaid answer h)
   stitch_by after (cut n) answer h = ap stitch_in answer
-  stitch_by after unkept answer h = absurd (subst IsSaid answer h)
+  stitch_by after unkept answer h = ap stitch_in answer
 
   -- the stitch order that the reply to a take of one gives
   pub stitch_given : (after : ℕ) (new : Ledger) → Acts rules now (TakeStitch after) old new reply → IsSaid reply → stitch_in reply ≡ model.next_stitch rules old.state after
@@ -75,7 +75,7 @@ module _ (rules : Rules) (now : ℕ) (old : Ledger) (reply : Reply) where
   fits_by plain answer = subst (λ r. shown r ≤ order_length (next_taken now old.state)) (sym answer) (event_fits (refusal rules old.settings (Taken now) old.state) (model.taken rules old.settings now old.state) (order_length (next_taken now old.state)) (given_fits rules (change rules old.settings (Taken now) old.state) (next_taken now old.state)))
   fits_by memory answer = subst (λ r. shown r ≤ order_length (next_taken now old.state)) (sym answer) (omega arith)
   fits_by (cut n) answer = subst (λ r. shown r ≤ order_length (next_taken now old.state)) (sym answer) (event_fits (refusal rules old.settings (Taken now) old.state) (model.taken rules old.settings now old.state) (order_length (next_taken now old.state)) (given_fits rules (change rules old.settings (Taken now) old.state) (next_taken now old.state)))
-  fits_by unkept answer = subst (λ r. shown r ≤ order_length (next_taken now old.state)) (sym answer) (omega arith)
+  fits_by unkept answer = subst (λ r. shown r ≤ order_length (next_taken now old.state)) (sym answer) (event_fits (refusal rules old.settings (Taken now) old.state) (model.taken rules old.settings now old.state) (order_length (next_taken now old.state)) (given_fits rules (change rules old.settings (Taken now) old.state) (next_taken now old.state)))
 
   -- the reply to a take shows no longer reference than that of the record that is due first
   pub take_fits : (new : Ledger) → Acts rules now Take old new reply → shown reply ≤ order_length (next_taken now old.state)

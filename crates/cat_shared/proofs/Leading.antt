@@ -97,13 +97,13 @@ module _ (rules : Rules) (s : Settings) (now : ℕ) where
       done_whole d never plain by = whole_leads d by.state by.answer
       done_whole d never memory by = not_noted reply h (ap is_noted by.answer)
       done_whole d never (cut k) by = absurd (never by.exact.0)
-      done_whole d never unkept by = not_noted reply h (ap is_noted by.answer)
+      done_whole d never unkept by = whole_leads d by.state by.answer
 
       answered_whole : (d : Deed) → (d ≡ Settle → ⊥) → (w : Word) → By d w → reply ≡ answered rules s now None d m
       answered_whole d never plain by = by.answer
       answered_whole d never memory by = not_noted reply h (ap is_noted by.answer)
       answered_whole d never (cut k) by = absurd (never by.exact.0)
-      answered_whole d never unkept by = not_noted reply h (ap is_noted by.answer)
+      answered_whole d never unkept by = by.answer
 
       -- ---- input commands
 
@@ -182,7 +182,7 @@ module _ (rules : Rules) (s : Settings) (now : ℕ) where
       settled_leads plain by never = whole_leads Settle by.state by.answer
       settled_leads memory by never = not_noted reply h (ap is_noted by.answer)
       settled_leads (cut k) by never = absurd (true≢false (sym (ap is_cut_short by.answer) ∙ never))
-      settled_leads unkept by never = not_noted reply h (ap is_noted by.answer)
+      settled_leads unkept by never = whole_leads Settle by.state by.answer
 
       no_want : (f : Fault) → is_want (core_fault f) ≡ false
       no_want (model.OldSerial k) = refl
@@ -208,7 +208,9 @@ module _ (rules : Rules) (s : Settings) (now : ℕ) where
           let p = try_settle rules s now None m in
           absurd (true≢false (sym (ap is_cut_short is) ∙ (ap is_cut_short by.answer ∙ not_short p p.stop (settle_unlimited rules s now m))))
       cut_leads k memory by is = not_noted reply h (ap is_noted by.answer)
-      cut_leads k unkept by is = not_noted reply h (ap is_noted by.answer)
+      cut_leads k unkept by is =
+          let p = try_settle rules s now None m in
+          absurd (true≢false (sym (ap is_cut_short is) ∙ (ap is_cut_short by.answer ∙ not_short p p.stop (settle_unlimited rules s now m))))
       cut_leads k (cut limit) by is =
           ap (λ e. led rules s (notes.Cut now e) m) (ap cut_events (sym is ∙ by.answer) ∙ by.exact.1) ∙ cut_at limit by
 
@@ -289,7 +291,7 @@ module _ (rules : Rules) (s : Settings) (now : ℕ) where
       pub unnoted_stays : Sound rules m → (d : Deed) (w : Word) → By d w → n ≡ m
       unnoted_stays sound d plain by = done_stays sound d by.state by.answer
       unnoted_stays sound d memory by = by.state
-      unnoted_stays sound d unkept by = by.state
+      unnoted_stays sound d unkept by = done_stays sound d by.state by.answer
       unnoted_stays sound d (cut k) by =
           let is : By Settle (cut k) = subst (λ v. By v (cut k)) by.exact.0 by in
           is.state ∙ cut_same k (ap is_noted (sym is.answer) ∙ h)
@@ -314,4 +316,4 @@ module _ (rules : Rules) (s : Settings) (now : ℕ) where
     deed_sound d plain by sound = subst (Sound rules) (sym by.state) (done_sound None d sound)
     deed_sound d memory by sound = subst (Sound rules) (sym by.state) sound
     deed_sound d (cut k) by sound = subst (Sound rules) (sym by.state) (done_sound (Some k) d sound)
-    deed_sound d unkept by sound = subst (Sound rules) (sym by.state) sound
+    deed_sound d unkept by sound = subst (Sound rules) (sym by.state) (done_sound None d sound)

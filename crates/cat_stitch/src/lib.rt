@@ -8,6 +8,4 @@ pub mod document;
 pub mod issues;
 pub mod laws;
 pub mod make;
-#[cfg(test)]
-mod tests;
 pub mod uid;

@@ -16,6 +16,4 @@ pub mod map;
 pub mod owned;
 pub mod pair;
 pub mod spare;
-#[cfg(test)]
-mod tests;
 pub mod tree;

@@ -17,5 +17,3 @@ pub mod base;
 pub mod location;
 pub mod resolve;
 pub mod target;
-#[cfg(test)]
-mod tests;

@@ -10,15 +10,17 @@ use Rattle.cat_commands.specs.Arguments.{number}
 use Rattle.cat_model.specs.declared.types.OrphanRule.{OrphanRule}
 use Rattle.cat_model.specs.declared.types.OrphanRule.TheVariants.{Keep}
 use Rattle.cat_tool.specs.Options.{is_crew, no_options, rule_of, serving_by, with_options}
-use Rattle.cat_tool.specs.Words.{alone, command_of, sample_of, serve, under, with_rule, with_two, without_serve}
+use Rattle.cat_tool.specs.Words.{alone, command_of, is_kept, sample_of, serve, stored, stored_under, under, with_four, with_more, with_rule, with_two, without_serve}
 use Rattle.cat_tool.specs.declared.options.Options.{Options}
 use Rattle.cat_tool.specs.declared.options.Serving.{Serving}
 use Rattle.cat_tool.specs.declared.words.Command.{Command}
-use Rattle.cat_tool.specs.declared.words.Command.TheVariants.{Session, Wire, Serve, Mirror, Sample}
+use Rattle.cat_tool.specs.declared.words.Command.TheVariants.{Session, Stored, Wire, StoredWire, Serve, Mirror, Sample}
 
 -- a server serves some connections at once, and a sample has a small seed
 abbrev IsWithin : Command → Type 0
 IsWithin (Session rule) = Unit {0}
+IsWithin (Stored rule) = Unit {0}
+IsWithin (StoredWire rule) = Unit {0}
 IsWithin (Wire rule) = Unit {0}
 IsWithin (Serve s) = 0 < s.connections
 IsWithin Mirror = Unit {0}
@@ -71,6 +73,13 @@ of_rule : (rule : Option OrphanRule) (word : List ℕ) → AreWithin (with_rule 
 of_rule None word = tt
 of_rule (Some rule) word = of_under rule word
 
+of_stored : (rule : Option OrphanRule) (word : List ℕ) → AreWithin (stored rule word)
+of_stored rule word = either (bytes_eq word (codes "session")) _ _ tt (either (bytes_eq word (codes "wire")) _ _ tt tt)
+
+of_stored_rule : (rule : Option OrphanRule) (word : List ℕ) → AreWithin (stored_under rule word)
+of_stored_rule None word = tt
+of_stored_rule (Some rule) word = of_stored (Some rule) word
+
 is_small : (seed count : ℕ) (a b : Bool) → nat_lt seed 2147483648 ≡ a → AreWithin (if a && b then Some (Sample seed count) else None)
 is_small seed count false b is = tt
 is_small seed count true false is = tt
@@ -83,13 +92,24 @@ of_sample (Some seed) (Some count) = is_small seed count (nat_lt seed 2147483648
 
 of_two : (word one two : List ℕ) → AreWithin (with_two word one two)
 of_two word one two =
-    either (bytes_eq word (codes "sample")) _ _ (of_sample (number one) (number two)) (either (bytes_eq one (codes "--orphans")) _ _ (of_rule (rule_of two) word) tt)
+    either (bytes_eq word (codes "sample")) _ _ (of_sample (number one) (number two))
+    (either (bytes_eq one (codes "--orphans")) _ _ (of_rule (rule_of two) word) (either (is_kept one) _ _ (of_stored None word) tt))
+
+of_four : (word one two three four : List ℕ) → AreWithin (with_four word one two three four)
+of_four word one two three four =
+    either (is_kept one && bytes_eq three (codes "--orphans")) _ _ (of_stored_rule (rule_of four) word)
+    (either (bytes_eq one (codes "--orphans") && is_kept three) _ _ (of_stored_rule (rule_of two) word) tt)
+
+of_more : (word one two : List ℕ) (words : List (List ℕ)) → AreWithin (with_more word one two words)
+of_more word one two [] = of_two word one two
+of_more word one two (three ∷ []) = tt
+of_more word one two (three ∷ four ∷ []) = of_four word one two three four
+of_more word one two (three ∷ four ∷ five ∷ words) = tt
 
 of_other : (word : List ℕ) (words : List (List ℕ)) → AreWithin (without_serve word words)
 of_other word [] = of_alone word
 of_other word (one ∷ []) = tt
-of_other word (one ∷ two ∷ []) = of_two word one two
-of_other word (one ∷ two ∷ three ∷ words) = tt
+of_other word (one ∷ two ∷ words) = of_more word one two words
 
 -- ---- all
 

@@ -12,7 +12,7 @@ use Rattle.cat_loop.specs.declared.line_loop.SessionEnd.TheVariants.{Whole, Read
 use Rattle.cat_model.specs.Catalogue.{Rules}
 use Rattle.cat_model.specs.declared.types.OrphanRule.{OrphanRule}
 use Rattle.cat_model.specs.declared.types.Settings.{Settings}
-use Rattle.cat_tool.specs.Status.{HasRun}
+use Rattle.cat_ends.specs.Status.{HasRun}
 use Rattle.cat_transcript.specs.Program.{program_settings, ruled_after, ruled_reply, session_start}
 use Rattle.cat_transcript.specs.Session.{session_after, session_reply}
 use Rattle.cat_transcript.specs.declared.state.RuledSession.{RuledSession}

@@ -11,7 +11,7 @@ use Rattle.cat_requests.specs.Requests.{request_of}
 use Rattle.cat_wire.specs.Runs.{Answering, Lacking, AnswersItems}
 use Rattle.cat_wire.specs.Worded.{HasWords, IsWorded}
 use Rattle.cat_wire.proofs.Wording.{outcome_worded, transcript_worded}
-use Rattle.cat_tool.specs.Status.{HasServed}
+use Rattle.cat_ends.specs.Status.{HasServed}
 
 module _ {S A T : Type 0} (old new : S) (desk : S → A) (timed : A → T) (catalogue : T → Ledger) (moment readings : T → ℕ) (feed : A → Feed) (rules : Rules) where
   abbrev answers : Answering S
@@ -31,15 +31,18 @@ module _ {S A T : Type 0} (old new : S) (desk : S → A) (timed : A → T) (cata
   worded : IsWorded answers lacks Holds seen (wire_after rules) (wire_reply rules)
   worded = is_worded rules timed catalogue moment readings feed desk
 
+  -- from the moment 0 it is answered by words, up to what it comes to
+  pub served_to : (status : ℕ) (left left' written written' : Option (List ℕ)) (first : Wired) → Holds old → seen old ≡ first → HasServed (AnswersItems answers lacks) status left left' written written' old new
+      → HasServed (HasWords (wire_after rules) (wire_reply rules)) status left left' written written' first (seen new)
+  served_to status left left' written written' first holds same h =
+      subst (λ b. HasServed (HasWords (wire_after rules) (wire_reply rules)) status left left' written written' b (seen new)) same (
+        h.0,
+        h.1,
+        outcome_worded answers lacks Holds seen (wire_after rules) (wire_reply rules) worded h.0 left left' written written' old new holds h.2,
+        transcript_worded answers lacks Holds seen (wire_after rules) (wire_reply rules) worded h.0 left written written' old new holds h.3,
+      )
+
   -- from the moment 0 it is answered by words
   pub served : (status : ℕ) (left left' written written' : Option (List ℕ)) (first : Wired) → Holds old → seen old ≡ first → HasServed (AnswersItems answers lacks) status left left' written written' old new
       → (end : Wired) × HasServed (HasWords (wire_after rules) (wire_reply rules)) status left left' written written' first end
-  served status left left' written written' first holds same h = (
-    seen new,
-    subst (λ b. HasServed (HasWords (wire_after rules) (wire_reply rules)) status left left' written written' b (seen new)) same (
-      h.0,
-      h.1,
-      outcome_worded answers lacks Holds seen (wire_after rules) (wire_reply rules) worded h.0 left left' written written' old new holds h.2,
-      transcript_worded answers lacks Holds seen (wire_after rules) (wire_reply rules) worded h.0 left written written' old new holds h.3,
-    ),
-  )
+  served status left left' written written' first holds same h = (seen new, served_to status left left' written written' first holds same h)

@@ -1,6 +1,5 @@
 pub mod Options
 pub mod Words
-pub mod Status
 pub mod Sessions
 pub mod Wires
 pub mod Mirrors

@@ -1,11 +1,13 @@
 -- The command that the words of a command line are.
-use Rattle.std.specs.Prelude.{ℕ, List, [], ◌∷◌, Option, None, Some, bytes_eq, codes, nat_lt, nat_le, ◌&&◌, if◌then◌else◌, option_map}
+use Rattle.std.specs.Prelude.{ℕ, List, [], ◌∷◌, Option, None, Some, Bool, bytes_eq, codes, nat_lt, nat_le, ◌&&◌, ◌||◌, if◌then◌else◌, option_map}
 use Rattle.cat_commands.specs.Arguments.{number}
+use Rattle.cat_keeper.specs.declared.keeper.Place.{Place}
+use Rattle.cat_keeper.specs.declared.keeper.Place.TheVariants.{File, Journal}
 use Rattle.cat_model.specs.declared.types.OrphanRule.{OrphanRule}
 use Rattle.cat_model.specs.declared.types.OrphanRule.TheVariants.{Keep}
 use Rattle.cat_tool.specs.Options.{rule_of, serving_of}
 use Rattle.cat_tool.specs.declared.words.Command.{Command}
-use Rattle.cat_tool.specs.declared.words.Command.TheVariants.{Session, Wire, Serve, Mirror, Sample}
+use Rattle.cat_tool.specs.declared.words.Command.TheVariants.{Session, Stored, Wire, StoredWire, Serve, Mirror, Sample}
 
 -- the command of a word that runs under a rule for orphans
 abbrev pub under : OrphanRule → List ℕ → Option Command
@@ -20,6 +22,19 @@ abbrev pub with_rule : Option OrphanRule → List ℕ → Option Command
 with_rule None word = None
 with_rule (Some rule) word = under rule word
 
+-- the option names a file that keeps rows: a database, or a journal
+abbrev pub is_kept : List ℕ → Bool
+is_kept option = bytes_eq option (codes "--store") || bytes_eq option (codes "--journal")
+
+-- a session or a connection over a store, under a rule or the stored one
+abbrev pub stored : Option OrphanRule → List ℕ → Option Command
+stored rule word = if bytes_eq word (codes "session") then Some (Stored rule) else (if bytes_eq word (codes "wire") then Some (StoredWire rule) else None)
+
+-- the same under a rule, if there is one
+abbrev pub stored_under : Option OrphanRule → List ℕ → Option Command
+stored_under None word = None
+stored_under (Some rule) word = stored (Some rule) word
+
 -- a seed is below 2^31, and a sample has 1 to 50,000 Components
 abbrev pub sample_within : ℕ → ℕ → Option Command
 sample_within seed count = if nat_lt seed 2147483648 && (nat_lt 0 count && nat_le count 50000) then Some (Sample seed count) else None
@@ -30,26 +45,57 @@ sample_of None count = None
 sample_of (Some seed) None = None
 sample_of (Some seed) (Some count) = sample_within seed count
 
--- the command of a word with two more: the numbers of a sample, or the option for orphans and its value
+-- the command of a word with two more: the numbers of a sample, or an option and its value
 abbrev pub with_two : List ℕ → List ℕ → List ℕ → Option Command
 with_two word one two =
-    if bytes_eq word (codes "sample") then sample_of (number one) (number two) else (if bytes_eq one (codes "--orphans") then with_rule (rule_of two) word else None)
+    if bytes_eq word (codes "sample") then sample_of (number one) (number two)
+    else (if bytes_eq one (codes "--orphans") then with_rule (rule_of two) word
+    else (if is_kept one then stored None word else None))
+
+-- the command of a word with two options and their values: a session or a connection over a store under a rule, in either order
+abbrev pub with_four : List ℕ → List ℕ → List ℕ → List ℕ → List ℕ → Option Command
+with_four word one two three four =
+    if is_kept one && bytes_eq three (codes "--orphans") then stored_under (rule_of four) word
+    else (if bytes_eq one (codes "--orphans") && is_kept three then stored_under (rule_of two) word else None)
 
 -- `serve` with the words behind it
 abbrev pub serve : List (List ℕ) → Option Command
 serve words = option_map Serve (serving_of words)
 
+-- another word with two or more behind it
+abbrev pub with_more : List ℕ → List ℕ → List ℕ → List (List ℕ) → Option Command
+with_more word one two [] = with_two word one two
+with_more word one two (three ∷ []) = None
+with_more word one two (three ∷ four ∷ []) = with_four word one two three four
+with_more word one two (three ∷ four ∷ five ∷ words) = None
+
 -- another word with those behind it
 abbrev pub without_serve : List ℕ → List (List ℕ) → Option Command
 without_serve word [] = alone word
 without_serve word (one ∷ []) = None
-without_serve word (one ∷ two ∷ []) = with_two word one two
-without_serve word (one ∷ two ∷ three ∷ words) = None
+without_serve word (one ∷ two ∷ words) = with_more word one two words
 
 -- the command of the words, if they are one
 abbrev pub command_of : List (List ℕ) → Option Command
 command_of [] = None
 command_of (word ∷ words) = if bytes_eq word (codes "serve") then serve words else without_serve word words
+
+-- the place that an option and its value name
+abbrev pub kept_at : List ℕ → List ℕ → Place
+kept_at option file = if bytes_eq option (codes "--journal") then Journal file else File file
+
+-- the place that the second of two options and its value name
+abbrev pub second_place : List (List ℕ) → Place
+second_place [] = File []
+second_place (option ∷ []) = File []
+second_place (option ∷ file ∷ words) = kept_at option file
+
+-- the place of a session or a connection over a store: the file behind the option that names one
+abbrev pub place_of : List (List ℕ) → Place
+place_of [] = File []
+place_of (word ∷ []) = File []
+place_of (word ∷ option ∷ []) = File []
+place_of (word ∷ option ∷ file ∷ words) = if is_kept option then kept_at option file else second_place words
 
 -- the address of a `serve`: the second of its words
 abbrev pub address_of : List (List ℕ) → List ℕ

@@ -3,22 +3,20 @@
 //! `run` carries the headline: for the command `session` the bytes written are the abstract catalogue's replies to the lines
 //! of the bytes that the source told, for `wire` those to the messages of one HTTP connection, for `mirror` the answers to lines that are
 //! changes and the list of documents that they lead to, and for `sample` the line of a sample; `serve` ends well only where the doors have
-//! closed; each status has its cause. It stands on cat_session and cat_api, whose machines are the catalogue over the real layers
-//! of cat_layers, on cat_fed for a catalogue with its feed, on cat_loop and cat_wire, whose loops it calls, on cat_host for a server,
+//! closed; for `session` and `wire` over a store it says what the store was opened as, and that the keeper follows; each status has its
+//! cause. It stands on cat_session and cat_api, whose machines are the catalogue over the real layers of cat_layers, on cat_stored for
+//! commands over a store, on cat_ends for how a command ends, on cat_fed for a catalogue with its feed, on cat_loop and cat_wire, whose loops it calls, on cat_host for a server,
 //! on cat_following for a mirror, on cat_sample, and on cat_io and cat_doors for the ends.
 #![tactic(auto)]
 
-mod command;
 mod mirror;
 mod options;
 mod server;
-mod settings;
-#[cfg(test)]
-mod tests;
 mod top;
 mod words;
 
-pub use command::{Status, answer_lines, answer_messages, tell, usage};
+pub use cat_ends::Status;
+pub use cat_stored::Ran;
 pub use options::Serving;
 pub use top::run;
 pub use words::{Command, command_of};

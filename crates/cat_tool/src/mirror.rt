@@ -5,21 +5,20 @@ ghost use Rattle.cat_following.specs.declared.stop.Stop.TheVariants.{NoMemory};
 ghost use Rattle.cat_io.specs.Causes.{Rose};
 ghost use Rattle.cat_tool.specs.Mirrors.{HasMirrored, MirrorsSome, stop_status};
 
-use crate::command::Status;
+use cat_ends::Status;
 use cat_following::{Stop, follow};
 use cat_io::{Sink, Source};
 use std::alloc::Global;
 
-impl From<Stop> for Status {
-    ghost from_gives = { λ stop status. status.0 ≡ stop_status stop };
-
-    fn from(stop: Stop) -> Status {
-        match stop {
-            Stop::ReadFault => Status(3),
-            Stop::WriteFault => Status(4),
-            Stop::NoMemory => Status(9),
-            Stop::Bound => Status(10),
-        }
+// The status for each way in which a mirror stops.
+fn status_of(stop: Stop) -> Status
+    ensures { result.0 ≡ stop_status stop }
+{
+    match stop {
+        Stop::ReadFault => Status(3),
+        Stop::WriteFault => Status(4),
+        Stop::NoMemory => Status(9),
+        Stop::Bound => Status(10),
     }
 }
 
@@ -36,6 +35,6 @@ pub(crate) fn run_mirror<S: Source, O: Sink>(alloc: Global, source: &mut S, sink
 {
     match follow(alloc, source, sink) {
         Ok(()) => Status(0),
-        Err(stop) => Status::from(stop),
+        Err(stop) => status_of(stop),
     }
 }

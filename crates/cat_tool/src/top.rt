@@ -1,6 +1,6 @@
 //! The top call over the catalogue.
 
-ghost use Rattle.std.specs.Prelude.{◌≡◌, ◌≢◌, ℕ, List, [], Ok, Some, None, ◌<◌, ◌≤◌, ◌^◌, ◌↔◌, ◌⊎◌, map, string_bytes};
+ghost use Rattle.std.specs.Prelude.{◌≡◌, ◌≢◌, ℕ, List, [], Ok, Option, Some, None, ◌<◌, ◌≤◌, ◌^◌, ◌↔◌, ◌⊎◌, map, string_bytes};
 ghost use Rattle.std.specs.Io.KnownBytes.{Appends};
 ghost use Rattle.cat_api.specs.Wire.{Wired, wire_after, wire_reply};
 ghost use Rattle.cat_commands.specs.Lines.{line_of};
@@ -10,10 +10,14 @@ ghost use Rattle.cat_feed.specs.Feed.{begun};
 ghost use Rattle.cat_following.specs.declared.stop.Stop.TheVariants.{NoMemory};
 ghost use Rattle.cat_io.specs.Causes.{Rose};
 ghost use Rattle.cat_io.specs.Sink.{AppendsFront};
+ghost use Rattle.cat_keeper.specs.Answers.{Stays};
+ghost use Rattle.cat_kept.specs.Kept.{kept_after};
+ghost use Rattle.cat_kept.specs.declared.state.KeptState.{KeptState};
 ghost use Rattle.cat_layers.specs.Layered.{layered};
+ghost use Rattle.cat_loop.specs.Runs.{after_lines};
 ghost use Rattle.cat_loop.specs.Word.{Word};
 ghost use Rattle.cat_model.specs.Fresh.{IsFresh, facts_of, fresh_docs};
-ghost use Rattle.cat_model.specs.Sound.{Quiet};
+ghost use Rattle.cat_model.specs.Sound.{Quiet, Sound};
 ghost use Rattle.cat_model.specs.Step.{start};
 ghost use Rattle.cat_model.specs.declared.types.Counts.{Counts};
 ghost use Rattle.cat_model.specs.declared.types.OrphanRule.{OrphanRule};
@@ -22,10 +26,11 @@ ghost use Rattle.cat_replies.specs.Events.{settled};
 ghost use Rattle.cat_sample.specs.Summary.{sample_line};
 ghost use Rattle.cat_tool.specs.Mirrors.{HasMirrored, MirrorsSome};
 ghost use Rattle.cat_tool.specs.Sessions.{reply_next, session_at, session_next};
-ghost use Rattle.cat_tool.specs.Status.{HasRun, HasServed, HasTold};
+ghost use Rattle.cat_ends.specs.Status.{HasRun, HasServed, HasTold};
+ghost use Rattle.cat_stored.specs.Stores.{HasKept, HasKeptWire, IsRefused};
 ghost use Rattle.cat_tool.specs.Wires.{wire_start};
-ghost use Rattle.cat_tool.specs.Words.{command_of};
-ghost use Rattle.cat_tool.specs.declared.command.TheConstants.{USAGE};
+ghost use Rattle.cat_tool.specs.Words.{command_of, place_of};
+ghost use Rattle.cat_ends.specs.declared.command.TheConstants.{USAGE};
 ghost use Rattle.cat_tool.specs.declared.options.Serving.{Serving};
 ghost use Rattle.cat_transcript.specs.Inputs.{accepted_commands, inputs_fold, inputs_of};
 ghost use Rattle.cat_transcript.specs.Program.{program_settings, session_start};
@@ -34,25 +39,28 @@ ghost use Rattle.cat_transcript.specs.Session.{session_after, session_reply};
 ghost use Rattle.cat_transcript.specs.declared.state.SessionState.{SessionState};
 ghost use Rattle.cat_wire.specs.Worded.{HasWords};
 
-use crate::command::{Status, answer_lines, answer_messages, tell, usage};
 use crate::mirror::run_mirror;
 use crate::server::run_serve;
-use crate::settings::settings;
-use crate::words::{Command, address_of, command_of};
+use crate::words::{Command, address_of, command_of, place_of};
 use cat_api::service::Service;
 use cat_core::catalogue::{Catalogue, Done, Stitched};
 use cat_desk::timed::Timed;
 use cat_doors::Doors;
+use cat_ends::{Status, answer_lines, answer_messages, tell, usage};
 use cat_fed::fed::Fed;
 use cat_io::{Clock, FixedClock, Sink, Source};
+use cat_keeper::keeper::Keeper;
+use cat_kept::law::kept_sessions_stay_sound;
 use cat_layers::layered::Layered;
 use cat_model::types::OrphanRule;
 use cat_sample::sample;
 use cat_session::Session;
+use cat_stored::{Ran, run_stored, run_stored_connection};
 use cat_transcript::law::{
     deleting_sessions_have_no_orphans, inputs_are_those_of_accepted_commands, sessions_stay_sound,
     settled_sessions_are_at_rest,
 };
+use cat_transcript::settings::settings;
 use std::alloc::Global;
 use std::sync::Wait;
 use std::thread::Threads;
@@ -128,14 +136,23 @@ fn tell_sample<O: Sink>(alloc: Global, seed: u64, count: u64, sink: &mut O) -> S
 
 /// Runs the command that the words are. `session` answers the lines of the source over an empty catalogue, one reply a line; `wire`
 /// answers the messages of one HTTP connection over an empty catalogue whose moment is 0; each of them keeps or deletes what leaves at a
-/// finish, by the rule for orphans among its words. `serve` listens at an address, and serves the HTTP connections that come over an empty
+/// finish, by the rule for orphans among its words. With `--store` or `--journal` they answer over the catalogue that the keeper has in
+/// that file, and keep there what changes. `serve` listens at an address, and serves the HTTP connections that come over an empty
 /// catalogue, with workers beside them. `mirror` follows the feed whose changes are the lines of the source. `sample` with a seed and a
 /// count makes a sample and writes its line. Other words write the usage line.
 ///
 /// The status says how it ended: 0 where all input was read and answered, and for `serve` where the doors have closed; 2 for usage; 3 where
-/// the source failed; 4 where the sink failed; 7 where the doors failed; 9 for want of memory, which only a mirror may tell after lines were
+/// the source failed; 4 where the sink failed; 5 where the keeper failed as the store was opened; 6 where a row of the store has no reading
+/// or breaks a rule, which a line names; 7 where the doors failed; 9 for want of memory, which only a mirror may tell after lines were
 /// answered; 10 where 2^40 bytes were taken.
-pub fn run<S: Source, O: Sink, C: Clock + Drop + Send, D: Doors + Send, R: Threads + Wait + Sync>(
+pub fn run<
+    S: Source,
+    O: Sink,
+    C: Clock + Drop + Send,
+    D: Doors + Send,
+    K: Keeper,
+    R: Threads + Wait + Sync,
+>(
     rt: &R,
     alloc: Global,
     words: &[String],
@@ -143,28 +160,41 @@ pub fn run<S: Source, O: Sink, C: Clock + Drop + Send, D: Doors + Send, R: Threa
     sink: &mut O,
     clock: C,
     doors: &mut D,
-) -> Status
+    keeper: K,
+) -> Ran<K>
     // The bytes written are the abstract catalogue's replies to the lines of the bytes that the source told.
     ensures headline { (rule : OrphanRule) → command_of (map string_bytes words.now) ≡ Some (Command.Session rule) → (end : SessionState)
-        × HasRun (session_after layered (program_settings rule)) (session_reply layered (program_settings rule)) result.0
+        × HasRun (session_after layered (program_settings rule)) (session_reply layered (program_settings rule)) result.status.0
         (S.left source.old) (S.left source.new) (O.written sink.old) (O.written sink.new) session_start end }
+
+    // A session over a store was opened from what the keeper told, and at its end the keeper tells the rows of its state; or it wasn't opened.
+    ensures stored { (rule : Option OrphanRule) → command_of (map string_bytes words.now) ≡ Some (Command.Stored rule)
+        → (result.status.0 ≡ 5) ⊎ ((result.status.0 ≡ 6) ⊎ ((result.status.0 ≡ 9)
+        ⊎ HasKept (place_of (map string_bytes words.now)) rule (K.tables (place_of (map string_bytes words.now)) keeper) result.status.0
+        (S.left source.old) (S.left source.new) (O.written sink.old) (O.written sink.new) (λ place. K.tables place result.keeper) (K.faults result.keeper))) }
 
     // The same of the messages of a connection, with the catalogue's feed.
     ensures connection { (rule : OrphanRule) → command_of (map string_bytes words.now) ≡ Some (Command.Wire rule) → (end : Wired)
-        × HasServed (HasWords (wire_after layered) (wire_reply layered)) result.0
+        × HasServed (HasWords (wire_after layered) (wire_reply layered)) result.status.0
         (S.left source.old) (S.left source.new) (O.written sink.old) (O.written sink.new) (wire_start rule) end }
+
+    // The same of a connection over a store.
+    ensures stored_connection { (rule : Option OrphanRule) → command_of (map string_bytes words.now) ≡ Some (Command.StoredWire rule)
+        → (result.status.0 ≡ 5) ⊎ ((result.status.0 ≡ 6) ⊎ ((result.status.0 ≡ 9)
+        ⊎ HasKeptWire (place_of (map string_bytes words.now)) rule (K.tables (place_of (map string_bytes words.now)) keeper) result.status.0
+        (S.left source.old) (S.left source.new) (O.written sink.old) (O.written sink.new) (λ place. K.tables place result.keeper) (K.faults result.keeper))) }
 
     // The line of a sample is that of the abstract catalogue.
     ensures sample { (seed count : ℕ) → command_of (map string_bytes words.now) ≡ Some (Command.Sample seed count)
-        → HasTold (sample_line layered (program_settings Keep) seed count) result.0 (O.written sink.old) (O.written sink.new) (O.faults sink.old) (O.faults sink.new) }
+        → HasTold (sample_line layered (program_settings Keep) seed count) result.status.0 (O.written sink.old) (O.written sink.new) (O.faults sink.old) (O.faults sink.new) }
 
     // A mirror writes the answers to its lines, and at the end the list of its documents; where it stops before, a front of that.
     ensures mirrored { command_of (map string_bytes words.now) ≡ Some Command.Mirror
-        → HasMirrored result.0 (S.left source.old) (S.left source.new) (O.written sink.old) (O.written sink.new) }
+        → HasMirrored result.status.0 (S.left source.old) (S.left source.new) (O.written sink.old) (O.written sink.new) }
 
     // A server that ends well ends with doors that have closed.
     ensures closed { (serving : Serving) → command_of (map string_bytes words.now) ≡ Some (Command.Serve serving)
-        → result.0 ≡ 0 → HaveClosed (D.closed doors.new) }
+        → result.status.0 ≡ 0 → HaveClosed (D.closed doors.new) }
 
     // It leaves the source and the sink alone, and no other command touches the doors.
     ensures served_apart { (serving : Serving) → command_of (map string_bytes words.now) ≡ Some (Command.Serve serving)
@@ -185,24 +215,34 @@ pub fn run<S: Source, O: Sink, C: Clock + Drop + Send, D: Doors + Send, R: Threa
         → inputs_of (session_at rule lines outcomes).state
         ≡ inputs_fold (accepted_commands layered (program_settings rule) session_start lines outcomes) (inputs_of session_start.state) }
 
+    // So it is of a session over a store, whatever wasn't kept of its lines.
+    ensures fresh_kept { (m : KeptState) (lines : List (List ℕ)) (outcomes : List Word) (now : ℕ)
+        → Sound layered m.ruled.session.state → Quiet (after_lines (kept_after layered) m lines outcomes).ruled.session.state now
+        → IsFresh layered (after_lines (kept_after layered) m lines outcomes).ruled.session.state }
+
     // A settle that is answered `settled` leaves it at rest, nothing due and nothing marked.
     ensures settled { (rule : OrphanRule) (lines : List (List ℕ)) (outcomes : List Word) (outcome : Word) (line : List ℕ) (counts : Counts)
         → line_of line ≡ Ok Settle → reply_next rule lines outcomes outcome line ≡ settled counts
         → IsAtRest (session_next rule lines outcomes outcome line) }
 
     // Each status has its cause.
-    ensures usage { (result.0 ≡ 2) ↔ (command_of (map string_bytes words.now) ≡ None) }
-    ensures usage_line { result.0 ≡ 2 → Appends (O.written sink.old) (O.written sink.new) USAGE.now
+    ensures usage { (result.status.0 ≡ 2) ↔ (command_of (map string_bytes words.now) ≡ None) }
+    ensures usage_line { result.status.0 ≡ 2 → Appends (O.written sink.old) (O.written sink.new) USAGE.now
         ⊎ (AppendsFront (O.written sink.old) (O.written sink.new) USAGE.now × Rose (O.faults sink.old) (O.faults sink.new)) }
-    ensures usage_same { result.0 ≡ 2 → source.new ≡ source.old }
-    ensures read_fault { result.0 ≡ 3 → Rose (S.faults source.old) (S.faults source.new) }
-    ensures write_fault { result.0 ≡ 4 → Rose (O.faults sink.old) (O.faults sink.new) }
-    ensures doors_fault { result.0 ≡ 7 → Rose (D.faults doors.old) (D.faults doors.new) }
+    ensures usage_same { result.status.0 ≡ 2 → source.new ≡ source.old }
+    ensures read_fault { result.status.0 ≡ 3 → Rose (S.faults source.old) (S.faults source.new) }
+    ensures write_fault { result.status.0 ≡ 4 → Rose (O.faults sink.old) (O.faults sink.new) }
+    ensures store_same { (result.status.0 ≡ 5) ⊎ (result.status.0 ≡ 6) → Stays (K.tables (place_of (map string_bytes words.now)) keeper) (K.tables (place_of (map string_bytes words.now)) result.keeper) }
+    ensures keeper_fault { result.status.0 ≡ 5 → Rose (K.faults keeper) (K.faults result.keeper) }
+    ensures refused_store { result.status.0 ≡ 6 → IsRefused (O.written sink.old) (O.written sink.new) (O.faults sink.old) (O.faults sink.new) }
+    ensures stores_alone { (result.status.0 ≡ 5) ⊎ (result.status.0 ≡ 6) → (rule : Option OrphanRule)
+        × ((command_of (map string_bytes words.now) ≡ Some (Command.Stored rule)) ⊎ (command_of (map string_bytes words.now) ≡ Some (Command.StoredWire rule))) }
+    ensures doors_fault { result.status.0 ≡ 7 → Rose (D.faults doors.old) (D.faults doors.new) }
 
     // Memory lacks before anything is read or written, but a mirror may lack it at any line.
-    ensures memory { result.0 ≡ 9 → command_of (map string_bytes words.now) ≢ Some Command.Mirror
+    ensures memory { result.status.0 ≡ 9 → command_of (map string_bytes words.now) ≢ Some Command.Mirror
         → (source.new ≡ source.old) × (sink.new ≡ sink.old) }
-    ensures mirror_memory { result.0 ≡ 9 → command_of (map string_bytes words.now) ≡ Some Command.Mirror
+    ensures mirror_memory { result.status.0 ≡ 9 → command_of (map string_bytes words.now) ≡ Some Command.Mirror
         → MirrorsSome NoMemory (S.left source.old) (S.left source.new) (O.written sink.old) (O.written sink.new) }
 
     // No count of faults falls.
@@ -210,24 +250,55 @@ pub fn run<S: Source, O: Sink, C: Clock + Drop + Send, D: Doors + Send, R: Threa
     ensures write_later { O.faults sink.old ≤ O.faults sink.new }
     ensures doors_later { D.faults doors.old ≤ D.faults doors.new }
 
-    // Where no end failed, a command ends whole, for want of memory or at the bound.
+    // Where no end failed, a command ends whole, for want of memory or at the bound, but a store may be refused.
     ensures complete { command_of (map string_bytes words.now) ≢ None
         → (Rose (S.faults source.old) (S.faults source.new) → ⊥) → (Rose (O.faults sink.old) (O.faults sink.new) → ⊥)
-        → (Rose (D.faults doors.old) (D.faults doors.new) → ⊥)
-        → (result.0 ≡ 0) ⊎ ((result.0 ≡ 9) ⊎ (result.0 ≡ 10)) }
+        → (Rose (D.faults doors.old) (D.faults doors.new) → ⊥) → (Rose (K.faults keeper) (K.faults result.keeper) → ⊥)
+        → (result.status.0 ≡ 0) ⊎ ((result.status.0 ≡ 6) ⊎ ((result.status.0 ≡ 9) ⊎ (result.status.0 ≡ 10))) }
 {
     sessions_stay_sound();
     deleting_sessions_have_no_orphans();
     inputs_are_those_of_accepted_commands();
     settled_sessions_are_at_rest();
+    kept_sessions_stay_sound();
     match command_of(words) {
-        None => usage(sink),
-        Some(Command::Session(orphans)) => run_session(alloc, orphans, source, sink),
-        Some(Command::Wire(orphans)) => run_connection(alloc, orphans, source, sink),
-        Some(Command::Serve(serving)) => {
-            run_serve(rt, alloc, address_of(words), serving, clock, doors)
-        }
-        Some(Command::Mirror) => run_mirror(alloc, source, sink),
-        Some(Command::Sample(seed, count)) => tell_sample(alloc, seed, count, sink),
+        None => Ran {
+            status: usage(sink),
+            keeper,
+        },
+        Some(Command::Session(orphans)) => Ran {
+            status: run_session(alloc, orphans, source, sink),
+            keeper,
+        },
+        Some(Command::Stored(orphans)) => match place_of(alloc, words) {
+            Ok(place) => run_stored(alloc, orphans, place, keeper, source, sink),
+            Err(_) => Ran {
+                status: Status(9),
+                keeper,
+            },
+        },
+        Some(Command::Wire(orphans)) => Ran {
+            status: run_connection(alloc, orphans, source, sink),
+            keeper,
+        },
+        Some(Command::StoredWire(orphans)) => match place_of(alloc, words) {
+            Ok(place) => run_stored_connection(alloc, orphans, place, keeper, source, sink),
+            Err(_) => Ran {
+                status: Status(9),
+                keeper,
+            },
+        },
+        Some(Command::Serve(serving)) => Ran {
+            status: run_serve(rt, alloc, address_of(words), serving, clock, doors),
+            keeper,
+        },
+        Some(Command::Mirror) => Ran {
+            status: run_mirror(alloc, source, sink),
+            keeper,
+        },
+        Some(Command::Sample(seed, count)) => Ran {
+            status: tell_sample(alloc, seed, count, sink),
+            keeper,
+        },
     }
 }

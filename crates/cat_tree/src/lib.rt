@@ -19,8 +19,6 @@ pub mod edit;
 pub mod read;
 pub mod room;
 mod stream;
-#[cfg(test)]
-mod tests;
 pub mod text;
 pub mod tree;
 pub mod write;

@@ -16,8 +16,6 @@
 mod law;
 mod plays;
 mod tells;
-#[cfg(test)]
-mod tests;
 mod turns;
 
 pub use law::{Held, Law, Stage, View};

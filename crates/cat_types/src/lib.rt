@@ -16,6 +16,4 @@ pub mod parts;
 pub mod relation;
 mod rows;
 pub mod table;
-#[cfg(test)]
-mod tests;
 pub mod work;

@@ -14,8 +14,6 @@
 
 mod machine;
 mod message_loop;
-#[cfg(test)]
-mod tests;
 mod window;
 
 pub use machine::Machine;

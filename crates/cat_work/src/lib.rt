@@ -16,6 +16,4 @@ pub mod desk;
 pub mod gate;
 pub mod round;
 pub mod stitch;
-#[cfg(test)]
-mod tests;
 pub mod work;

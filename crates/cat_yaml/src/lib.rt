@@ -26,6 +26,4 @@ mod quoted;
 pub mod read;
 mod scalar;
 mod scan;
-#[cfg(test)]
-mod tests;
 mod value;

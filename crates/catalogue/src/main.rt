@@ -1,4 +1,4 @@
-//! The program: its words, standard input and standard output, the host's clock and doors over TCP are given to the top call of
+//! The program: its words, standard input and standard output, the host's clock, doors over TCP and a keeper of files are given to the top call of
 //! cat_tool, and its status is the program's.
 //!
 //! It promises nothing of its own; what it prints is told by `cat_tool::run`, as far as the operating system hands on what it is given.
@@ -6,6 +6,8 @@
 
 use cat_doors::{HostClock, TcpDoors};
 use cat_io::{StdSink, StdSource};
+use cat_keeper_sql::place::PlaceKeeper;
+use cat_keepers::files::ToolFiles;
 use cat_tool::{Status, run};
 use std::process::ExitCode;
 use std::{env, io};
@@ -39,7 +41,9 @@ fn main(rt: HostRuntime) -> ExitCode {
                 &mut sink,
                 HostClock::new(&rt),
                 &mut doors,
+                PlaceKeeper::new(rt.alloc(), ToolFiles::new(&rt)),
             )
+            .status
         }
         Err(_) => Status(9),
     };

@@ -1,7 +1,7 @@
-use Rattle.std.proofs.Common.{◌≡◌, refl, sym, ap, ◌∙◌}
+use Rattle.std.proofs.Common.{◌≡◌, refl, sym, ap, ◌∙◌, inl, inr}
 use Rattle.cat_desk.specs.Deed.{deed_of}
 use Rattle.cat_keeper.specs.declared.keeper.Committed.TheVariants.{Kept, Failed, NoMemory}
-use Rattle.cat_loop.specs.Word.{memory, unkept}
+use Rattle.cat_loop.specs.Word.{memory}
 use Rattle.cat_tables.specs.Stored.{stored}
 use Rattle.cat_kept.proofs.Deeds.{needs_some}
 use Rattle.cat_kept.proofs.Followed.{followed}
@@ -13,15 +13,17 @@ returns-in-Kept-clause-followed g c =
     followed _ _ _ _ _ _ _ _ _ _ c.follow.ensures.orphans same c.follow.ensures.told
     (λ rule rows. c.follow.ensures.rows c.in-Kept.is ∙ (λ i. stored ((rule ∙ same) i) (c.view.ensures.state i))) c.requires.followed
 
+pub returns-in-Kept-clause-acts : goal.returns-in-Kept-clause-acts
+returns-in-Kept-clause-acts g c = inl (c.act-reply.ensures, refl)
+
 pub returns-in-Failed-clause-acts : goal.returns-in-Failed-clause-acts
-returns-in-Failed-clause-acts g c = record {
-  word = unkept;
+returns-in-Failed-clause-acts g c = inr (record {
+  changes = c.requires.changes;
   state = c.put_back.ensures.state ∙ c.in-Ok.ensures;
   settings = c.put_back.ensures.settings ∙ c.act-reply.ensures.settings;
+  counted = c.saturating_add.ensures;
   answer = refl;
-  spare = λ none. absurd (needs_some (deed_of c.args.command.now) c.args.catalogue.now.state c.requires.changes none);
-  exact = tt;
-}
+})
 
 pub returns-in-Failed-clause-followed : goal.returns-in-Failed-clause-followed
 returns-in-Failed-clause-followed g c =
@@ -32,14 +34,17 @@ returns-in-Failed-clause-followed g c =
     (λ rule rows. c.follow.ensures.same (λ k. (let no : Failed ≡ Kept = sym c.in-Failed.is ∙ k in cc)) ∙ (rows ∙ (λ i. stored (same i) (sym state i)))) c.requires.followed
 
 pub returns-in-NoMemory-clause-acts : goal.returns-in-NoMemory-clause-acts
-returns-in-NoMemory-clause-acts g c = record {
-  word = memory;
-  state = c.put_back-in-NoMemory.ensures.state ∙ c.in-Ok.ensures;
-  settings = c.put_back-in-NoMemory.ensures.settings ∙ c.act-reply.ensures.settings;
-  answer = refl;
-  spare = λ none. absurd (needs_some (deed_of c.args.command.now) c.args.catalogue.now.state c.requires.changes none);
-  exact = tt;
-}
+returns-in-NoMemory-clause-acts g c = inl (
+  record {
+    word = memory;
+    state = c.put_back-in-NoMemory.ensures.state ∙ c.in-Ok.ensures;
+    settings = c.put_back-in-NoMemory.ensures.settings ∙ c.act-reply.ensures.settings;
+    answer = refl;
+    spare = λ none. absurd (needs_some (deed_of c.args.command.now) c.args.catalogue.now.state c.requires.changes none);
+    exact = tt;
+  },
+  refl,
+)
 
 pub returns-in-NoMemory-clause-followed : goal.returns-in-NoMemory-clause-followed
 returns-in-NoMemory-clause-followed g c =

@@ -1,0 +1,12 @@
+pub mod Texts
+pub mod Laws
+pub mod Passing
+pub mod Crash
+pub mod Journals
+pub mod Steps
+pub mod Puts
+pub mod Takes
+pub mod Loadings
+pub mod Kept
+pub mod Standing
+pub mod Histories

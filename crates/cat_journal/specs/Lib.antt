@@ -1,0 +1,9 @@
+pub mod Batches
+pub mod Parsed
+pub mod Records
+pub mod Left
+pub mod Writes
+pub mod Loads
+pub mod Keeps
+pub mod Stands
+pub mod Histories

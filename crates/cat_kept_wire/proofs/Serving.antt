@@ -1,0 +1,232 @@
+-- A message at the moment 0, carried out by a desk whose catalogue is kept.
+use Rattle.std.proofs.Common.{◌≡◌, ◌⊎◌, ℕ, List, true, false, refl, sym, ap, ◌∙◌, subst, inl, inr}
+use Rattle.std.specs.Prelude.{Option, IfSome}
+use Rattle.std.specs.declared.result.Result.{Result}
+use Rattle.std.specs.declared.result.Result.TheVariants.{Ok, Err}
+use Rattle.cat_api.proofs.Serving.{acts_at, asks_at, tells_at, is_worded}
+use Rattle.cat_api.specs.Answering.{Acting, Asking, Telling, ActsBy, Carries, Answers, AnswersBytes, LacksIn, Lacks}
+use Rattle.cat_api.specs.Deeds.{act_answer, lacks_memory}
+use Rattle.cat_api.specs.Operations.{Operation, operation}
+use Rattle.cat_api.specs.Operations.Operation.{Act, Ask, Tell}
+use Rattle.cat_api.specs.Wire.{Wired, after_operation, after_requested, operation_answer, requested_answer, wire_after, wire_reply}
+use Rattle.cat_api.specs.declared.kind.Kind.{Kind}
+use Rattle.cat_core.specs.declared.ledger.Ledger.{Ledger}
+use Rattle.cat_desk.specs.Asks.{AsksOnce}
+use Rattle.cat_desk.specs.Deed.{Deed}
+use Rattle.cat_fed.specs.Told.{Tells}
+use Rattle.cat_feed.specs.declared.ledger.Ledger.{Ledger as Feed}
+use Rattle.cat_http.specs.Reply.{reply_bytes}
+use Rattle.cat_http.specs.declared.message.Message.{Message}
+use Rattle.cat_http.specs.declared.reply.HttpReply.{HttpReply}
+use Rattle.cat_io.specs.Clock.{CountsReading}
+use Rattle.cat_keeper.specs.declared.keeper.Place.{Place}
+use Rattle.cat_kept.specs.Deeds.{KeptActs, IsUnkept}
+use Rattle.cat_kept.specs.Kept.{one_more}
+use Rattle.cat_model.specs.Catalogue.{Rules}
+use Rattle.cat_requests.specs.Answers.{reply_to}
+use Rattle.cat_requests.specs.Requests.{request_of}
+use Rattle.cat_requests.specs.declared.answer.Answer.TheVariants.{Refused}
+use Rattle.cat_requests.specs.declared.refusal.Refusal.{Refusal}
+use Rattle.cat_requests.specs.declared.refusal.Refusal.TheVariants.{Keeper}
+use Rattle.cat_requests.specs.declared.request.Request.{Request}
+use Rattle.cat_wire.proofs.Wording.{outcome_worded, transcript_worded}
+use Rattle.cat_wire.specs.Connection.{Outcome, Transcript}
+use Rattle.cat_wire.specs.Runs.{Answering, Lacking, AnswersItems}
+use Rattle.cat_wire.specs.Worded.{Word, plain, memory, cut, untold, unkept, IsAnswered, AnswersMessage, LacksMemory, HasWords, IsWorded}
+use Rattle.cat_wire.specs.declared.message_loop.ConnEnd.{ConnEnd}
+use Rattle.cat_kept_wire.specs.Wire.{KeptWired, kept_wire_after, kept_wire_reply}
+
+-- ---- a catalogue that isn't kept refuses nothing that it would keep
+
+module _ (rules : Rules) (w : Wired) where
+  operated : (o : Operation) → after_operation rules unkept o w ≡ after_operation rules plain o w
+  operated (Act d k) = refl
+  operated (Ask q) = refl
+  operated (Tell since) = refl
+
+  told : (o : Operation) → operation_answer rules unkept o w ≡ operation_answer rules plain o w
+  told (Act d k) = refl
+  told (Ask q) = refl
+  told (Tell since) = refl
+
+  requested_after : (asked : Result Request Refusal) → after_requested rules unkept asked w ≡ after_requested rules plain asked w
+  requested_after (Ok request) = operated (operation request)
+  requested_after (Err refusal) = refl
+
+  requested_told : (asked : Result Request Refusal) → requested_answer rules unkept asked w ≡ requested_answer rules plain asked w
+  requested_told (Ok request) = told (operation request)
+  requested_told (Err refusal) = refl
+
+  after_plain : (m : Message) → wire_after rules w unkept m ≡ wire_after rules w plain m
+  unfolding wire_after
+  after_plain m = requested_after (request_of m)
+
+  reply_plain : (m : Message) → wire_reply rules w unkept m ≡ wire_reply rules w plain m
+  unfolding wire_reply
+  reply_plain m = ap (λ a. reply_bytes (reply_to m a)) (requested_told (request_of m))
+
+-- ---- a catalogue that is kept, with a clock and a feed
+
+module _ {A C : Type 0} (rules : Rules) (catalogue : A → Ledger) (clock : A → C) (moment readings : C → ℕ) (feed : A → Feed) (place : A → Place) (refusals : A → ℕ) where
+  -- it stands at the moment 0
+  abbrev pub IsAtZero : A → Type 0
+  IsAtZero a = moment (clock a) ≡ 0
+
+  -- what is seen of it
+  abbrev pub seen : A → KeptWired
+  seen a = record { wired = record { catalogue = catalogue a; feed = feed a }; place = place a; refusals = refusals a }
+
+  -- the place and the count stay
+  abbrev Stays : A → A → Type 0
+  Stays old new = (place new ≡ place old) × (refusals new ≡ refusals old)
+
+  abbrev pub acts_kept : Acting A
+  acts_kept old d new reply =
+      (KeptActs rules (moment (clock new)) d (catalogue old) (catalogue new) (refusals old) (refusals new) reply × (CountsReading (readings (clock old)) (readings (clock new)) × (moment (clock new) ≡ moment (clock old))))
+      × ((feed new ≡ feed old) × (place new ≡ place old))
+
+  abbrev pub asks_kept : Asking A
+  asks_kept old q new said text =
+      (AsksOnce (moment (clock new)) (readings (clock old)) (readings (clock new)) q (catalogue old) (catalogue new) said text × (moment (clock new) ≡ moment (clock old)))
+      × ((feed new ≡ feed old) × Stays old new)
+
+  abbrev pub tells_kept : Telling A
+  tells_kept old since new said text =
+      Tells (catalogue old).state.documents since (feed old) (feed new) said text × ((catalogue new ≡ catalogue old) × ((clock new ≡ clock old) × Stays old new))
+
+  -- ---- the same of a catalogue that isn't kept
+
+  abbrev timed : A → Ledger × C
+  timed a = (catalogue a, clock a)
+
+  abbrev acts_plain : Acting A
+  acts_plain = acts_at rules timed (λ t. t.0) (λ t. moment t.1) (λ t. readings t.1) feed
+
+  abbrev asks_plain : Asking A
+  asks_plain = asks_at rules timed (λ t. t.0) (λ t. moment t.1) (λ t. readings t.1) feed
+
+  abbrev tells_plain : Telling A
+  tells_plain = tells_at rules timed (λ t. t.0) (λ t. moment t.1) (λ t. readings t.1) feed
+
+  -- a message wasn't kept
+  record IsRefused (old new : A) (m : Message) (r : HttpReply) : Type 0 where
+    pub state : (catalogue new).state ≡ (catalogue old).state
+    pub settings : (catalogue new).settings ≡ (catalogue old).settings
+    pub counted : refusals new ≡ one_more (refusals old)
+    pub moment_is : moment (clock new) ≡ moment (clock old)
+    pub feed_is : feed new ≡ feed old
+    pub place_is : place new ≡ place old
+    pub reply_is : r ≡ reply_to m (Refused Keeper)
+
+  module _ (old new : A) where
+    acted : (d : Deed) (k : Kind) (m : Message) (r : HttpReply) → ActsBy acts_kept old new d k m r → (ActsBy acts_plain old new d k m r × Stays old new) ⊎ IsRefused old new m r
+    acted d k m r h = elim h.1.0.0 [
+      | inl a ↦ inl ((h.0, ((record { acts = a.0; reads = h.1.0.1.0 }, h.1.0.1.1), h.1.1.0), h.2, h.3), (h.1.1.1, a.1))
+      | inr u ↦ inr (record {
+        state = u.state;
+        settings = u.settings;
+        counted = u.counted;
+        moment_is = h.1.0.1.1;
+        feed_is = h.1.1.0;
+        place_is = h.1.1.1;
+        reply_is = h.3 ∙ ap (λ x. reply_to m (act_answer k x)) u.answer;
+      })
+    ]
+
+    carried : (o : Operation) (m : Message) (r : HttpReply) → Carries acts_kept asks_kept tells_kept old new o m r → (Carries acts_plain asks_plain tells_plain old new o m r × Stays old new) ⊎ IsRefused old new m r
+    carried (Act d k) m r h = acted d k m r h
+    carried (Ask q) m r h = inl ((h.0, h.1, (h.2.0, h.2.1.0), h.3, h.4), h.2.1.1)
+    carried (Tell since) m r h = inl ((h.0, h.1, (h.2.0, λ i. (h.2.1.0 i, h.2.1.1.0 i)), h.3, h.4), h.2.1.1.1)
+
+    requested : (asked : Result Request Refusal) (m : Message) (r : HttpReply) → Answers acts_kept asks_kept tells_kept old new asked m r → (Answers acts_plain asks_plain tells_plain old new asked m r × Stays old new) ⊎ IsRefused old new m r
+    requested (Ok request) m r h = carried (operation request) m r h
+    requested (Err refusal) m r h = inl (h, (ap place h.0, ap refusals h.0))
+
+    lacked_act : (d : Deed) (k : Kind) → LacksIn acts_kept asks_kept tells_kept old new (Act d k) → LacksIn acts_plain asks_plain tells_plain old new (Act d k) × Stays old new
+    lacked_act d k h = elim h [
+      | inl e ↦ (inl e, (ap place e, ap refusals e))
+      | inr l ↦ elim l.1.0.0 [
+        | inl a ↦ (inr (l.0, ((record { acts = a.0; reads = l.1.0.1.0 }, l.1.0.1.1), l.1.1.0), l.2), (l.1.1.1, a.1))
+        | inr u ↦ (let e : true ≡ false = sym l.2 ∙ ap lacks_memory u.answer in cc)
+      ]
+    ]
+
+    lacked_in : (o : Operation) → LacksIn acts_kept asks_kept tells_kept old new o → LacksIn acts_plain asks_plain tells_plain old new o × Stays old new
+    lacked_in (Act d k) h = lacked_act d k h
+    lacked_in (Ask q) h = elim h [
+      | inl e ↦ (inl e, (ap place e, ap refusals e))
+      | inr l ↦ (inr (l.0, l.1, (l.2.0, l.2.1.0)), l.2.1.1)
+    ]
+    lacked_in (Tell since) h = elim h [
+      | inl e ↦ (inl e, (ap place e, ap refusals e))
+      | inr l ↦ (inr (l.0, l.1, (l.2.0, λ i. (l.2.1.0 i, l.2.1.1.0 i))), l.2.1.1.1)
+    ]
+
+    lacked : (asked : Result Request Refusal) → Lacks acts_kept asks_kept tells_kept old new asked → Lacks acts_plain asks_plain tells_plain old new asked × Stays old new
+    lacked (Ok request) h = lacked_in (operation request) h
+    lacked (Err refusal) h = (h, (ap place h, ap refusals h))
+
+    -- ---- by words
+
+    seen_is : (w : Wired) → (seen new).wired ≡ w → Stays old new → seen new ≡ record (seen old) { wired = w }
+    seen_is w e s = λ i. record { wired = e i; place = s.0 i; refusals = s.1 i }
+
+    refused_is : (m : Message) (r : HttpReply) → IsRefused old new m r → seen new ≡ kept_wire_after rules (seen old) unkept m
+    refused_is m r u =
+        λ i. record { wired = record { catalogue = record { settings = u.settings i; state = u.state i }; feed = u.feed_is i }; place = u.place_is i; refusals = u.counted i }
+
+    kept_word : (m : Message) (text : List ℕ) (word : Word) → IsAnswered word → (seen new).wired ≡ wire_after rules (seen old).wired word m → text ≡ wire_reply rules (seen old).wired word m → Stays old new
+        → AnswersMessage (kept_wire_after rules) (kept_wire_reply rules) (seen old) m (seen new) text
+    kept_word m text plain acts e t s = (plain, tt, seen_is _ e s, t)
+    kept_word m text memory acts e t s = absurd acts
+    kept_word m text (cut n) acts e t s = (cut n, tt, seen_is _ e s, t)
+    kept_word m text untold acts e t s = absurd acts
+    kept_word m text unkept acts e t s = (plain, tt, seen_is _ (e ∙ after_plain rules (seen old).wired m) s, t ∙ reply_plain rules (seen old).wired m)
+
+  plain_worded : IsWorded (λ old m new text. AnswersBytes acts_plain asks_plain tells_plain old m new text) (λ old m new. Lacks acts_plain asks_plain tells_plain old new (request_of m))
+      IsAtZero (λ a. (seen a).wired) (wire_after rules) (wire_reply rules)
+  plain_worded = is_worded rules timed (λ t. t.0) (λ t. moment t.1) (λ t. readings t.1) feed (λ a. a)
+
+  answered_kept : (old new : A) (m : Message) (text : List ℕ) → IsAtZero old → AnswersBytes acts_kept asks_kept tells_kept old m new text
+      → IsAtZero new × AnswersMessage (kept_wire_after rules) (kept_wire_reply rules) (seen old) m (seen new) text
+  answered_kept old new m text zero h = elim (requested old new (request_of m) m h.0 h.1) [
+    | inl p ↦
+        let a = plain_worded.answered old new m text zero (h.0, p.0, h.2) in
+        (a.0, kept_word old new m text a.1.0 a.1.1 a.1.2 a.1.3 p.1)
+    | inr u ↦ (u.moment_is ∙ zero, (unkept, tt, refused_is old new m h.0 u, h.2 ∙ ap reply_bytes u.reply_is))
+  ]
+
+  lacked_kept : (old new : A) (m : Message) → IsAtZero old → Lacks acts_kept asks_kept tells_kept old new (request_of m) → IsAtZero new × LacksMemory (kept_wire_after rules) (seen old) m (seen new)
+  lacked_kept old new m zero h =
+      let l = lacked old new (request_of m) h in
+      let a = plain_worded.lacked old new m zero l.0 in
+      (a.0, elim a.1 [ inl e ↦ inl (seen_is old new _ e l.1) | inr e ↦ inr (seen_is old new _ e l.1) ])
+
+  -- ---- a service with such a desk
+
+  module _ {S : Type 0} (desk : S → A) where
+    abbrev answers : Answering S
+    answers old m new text = AnswersBytes acts_kept asks_kept tells_kept (desk old) m (desk new) text
+
+    abbrev lacks : Lacking S
+    lacks old m new = Lacks acts_kept asks_kept tells_kept (desk old) (desk new) (request_of m)
+
+    -- at the moment 0 it answers by words
+    worded : IsWorded answers lacks (λ s. IsAtZero (desk s)) (λ s. seen (desk s)) (kept_wire_after rules) (kept_wire_reply rules)
+    worded = record {
+      answered = λ old new m text zero h. answered_kept (desk old) (desk new) m text zero h;
+      lacked = λ old new m zero h. lacked_kept (desk old) (desk new) m zero h;
+    }
+
+    module _ (end : ConnEnd) (left left' written written' : Option (List ℕ)) (a new : S) (first last : A) (begun : desk a ≡ first) (ended : last ≡ desk new) (zero : IsAtZero first) where
+      pub outcome_kept : Outcome (AnswersItems answers lacks) end left left' written written' a new → Outcome (HasWords (kept_wire_after rules) (kept_wire_reply rules)) end left left' written written' (seen first) (seen last)
+      outcome_kept h =
+          subst (λ b. Outcome (HasWords (kept_wire_after rules) (kept_wire_reply rules)) end left left' written written' (seen b) (seen last)) begun
+          (subst (λ b. Outcome (HasWords (kept_wire_after rules) (kept_wire_reply rules)) end left left' written written' (seen (desk a)) (seen b)) (sym ended)
+          (outcome_worded answers lacks (λ s. IsAtZero (desk s)) (λ s. seen (desk s)) (kept_wire_after rules) (kept_wire_reply rules) worded end left left' written written' a new (subst IsAtZero (sym begun) zero) h))
+
+      pub transcript_kept : IfSome left (Transcript (AnswersItems answers lacks) end written written' a new) → IfSome left (Transcript (HasWords (kept_wire_after rules) (kept_wire_reply rules)) end written written' (seen first) (seen last))
+      transcript_kept h =
+          subst (λ b. IfSome left (Transcript (HasWords (kept_wire_after rules) (kept_wire_reply rules)) end written written' (seen b) (seen last))) begun
+          (subst (λ b. IfSome left (Transcript (HasWords (kept_wire_after rules) (kept_wire_reply rules)) end written written' (seen (desk a)) (seen b))) (sym ended)
+          (transcript_worded answers lacks (λ s. IsAtZero (desk s)) (λ s. seen (desk s)) (kept_wire_after rules) (kept_wire_reply rules) worded end left written written' a new (subst IsAtZero (sym begun) zero) h))

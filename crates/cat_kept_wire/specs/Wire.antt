@@ -1,0 +1,39 @@
+-- What a message does to a catalogue that is kept and to its feed at the moment 0, and the bytes of the reply.
+use Rattle.std.specs.Prelude.{ℕ, List}
+use Rattle.cat_api.specs.Wire.{Wired, wire_after, wire_reply}
+use Rattle.cat_http.specs.Reply.{reply_bytes}
+use Rattle.cat_http.specs.declared.message.Message.{Message}
+use Rattle.cat_keeper.specs.declared.keeper.Place.{Place}
+use Rattle.cat_kept.specs.Kept.{one_more}
+use Rattle.cat_model.specs.Catalogue.{Rules}
+use Rattle.cat_requests.specs.Answers.{reply_to}
+use Rattle.cat_requests.specs.declared.answer.Answer.TheVariants.{Refused}
+use Rattle.cat_requests.specs.declared.refusal.Refusal.TheVariants.{Keeper}
+use Rattle.cat_wire.specs.Worded.{Word, plain, memory, cut, untold, unkept, After, Reply}
+
+-- a catalogue and its feed, the place of the store that keeps the catalogue, and how many messages weren't kept, where the count stays at the
+-- last value of a u64
+pub record KeptWired : Type 0 where
+  pub wired : Wired
+  pub place : Place
+  pub refusals : ℕ
+
+-- the catalogue after a message: one that wasn't kept is counted and leaves it as it was, and any other does what it does to a catalogue that isn't kept
+abbrev pub kept_wire_after : Rules → After KeptWired
+kept_wire_after rules m plain message = record m { wired = wire_after rules m.wired plain message }
+kept_wire_after rules m memory message = record m { wired = wire_after rules m.wired memory message }
+kept_wire_after rules m (cut n) message = record m { wired = wire_after rules m.wired (cut n) message }
+kept_wire_after rules m untold message = record m { wired = wire_after rules m.wired untold message }
+kept_wire_after rules m unkept message = record m { refusals = one_more m.refusals }
+
+-- the bytes of the reply to a message whose change wasn't kept: the status 503
+abbrev pub unkept_reply : Message → List ℕ
+unkept_reply message = reply_bytes (reply_to message (Refused Keeper))
+
+-- the bytes of the reply to a message
+abbrev pub kept_wire_reply : Rules → Reply KeptWired
+kept_wire_reply rules m plain message = wire_reply rules m.wired plain message
+kept_wire_reply rules m memory message = wire_reply rules m.wired memory message
+kept_wire_reply rules m (cut n) message = wire_reply rules m.wired (cut n) message
+kept_wire_reply rules m untold message = wire_reply rules m.wired untold message
+kept_wire_reply rules m unkept message = unkept_reply message

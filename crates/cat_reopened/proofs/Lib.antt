@@ -1,0 +1,10 @@
+pub mod In
+pub mod Texts
+pub mod Values
+pub mod Rows
+pub mod Views
+pub mod Offers
+pub mod Parts
+pub mod Same
+pub mod Opening
+pub mod Version

@@ -1,0 +1,113 @@
+//! Sessions over a store, and what is there again.
+use cat_ends::Status;
+use cat_io::{MemorySink, MemorySource};
+use cat_keeper::keeper::Place;
+use cat_keeper::memory::MemoryKeeper;
+use cat_keeper::table::Table;
+use cat_stored::{Ran, run_stored, run_stored_connection};
+use cat_table::map::Map;
+use cat_tree::text::Text;
+use std::alloc::{AllocError, Global};
+use std::test::Fail;
+
+// The rows of a store, each as a table, a key and a value.
+fn keeper_of(
+    alloc: Global,
+    rows: &[(Table, &str, &str)],
+    failing: u64,
+) -> Result<MemoryKeeper, AllocError> {
+    let mut kept = Map::new();
+    for (table, key, value) in rows {
+        kept.put(
+            alloc,
+            (*table, Text::of(alloc, key)?),
+            Text::of(alloc, value)?,
+        )?;
+    }
+    Ok(MemoryKeeper::new(kept, vec![in alloc; failing]?))
+}
+
+// What a session over a store writes to these lines, and its status with the keeper.
+fn session_over(
+    alloc: Global,
+    keeper: MemoryKeeper,
+    lines: &[u8],
+) -> Result<(Ran<MemoryKeeper>, MemorySink), AllocError> {
+    let mut source = MemorySource::new(lines.to_vec(alloc)?, 1_000, Vec::new(alloc));
+    let mut sink = MemorySink::new(1_000, Vec::new(alloc));
+    let ran = run_stored(alloc, None, Place::Nowhere, keeper, &mut source, &mut sink);
+    Ok((ran, sink))
+}
+
+const OWNER: &[u8] =
+    b"full git {\"serial\":1,\"entities\":[{\"entity\":{\"apiVersion\":\"backstage.io/v1alpha1\",\"kind\":\"Component\",\"metadata\":{\"name\":\"web\"},\"spec\":{\"type\":\"service\",\"lifecycle\":\"production\",\"owner\":\"a\"}}}]}\n";
+
+#[test]
+fn what_is_kept_is_there_again(rt: HostRuntime) -> Result<(), Fail> {
+    let alloc = rt.alloc();
+    // The call of the keeper that fails, the status, and what is written to two mutations, a settle and the state.
+    let cases: [(u64, u8, &[u8]); 4] = [
+        (1, 5, b""),
+        (
+            2,
+            0,
+            b"refused keeper\nok\nsettled 1 1 1\nstate records 1 orphans 0 due 0 leased 0 marked 0\n",
+        ),
+        (
+            3,
+            0,
+            b"ok\nok again\nrefused keeper\nstate records 1 orphans 0 due 1 leased 0 marked 0\n",
+        ),
+        (
+            9,
+            0,
+            b"ok\nok again\nsettled 1 1 1\nstate records 1 orphans 0 due 0 leased 0 marked 0\n",
+        ),
+    ];
+    for (failing, status, written) in cases.iter() {
+        let keeper = keeper_of(alloc, &[], *failing)?;
+        let lines = [OWNER, OWNER, b"settle\nstate\n"].concat(alloc)?;
+        let (ran, sink) = session_over(alloc, keeper, lines.as_slice())?;
+        assert_eq!(rt; ran.status, Status(*status));
+        assert_eq!(rt; sink.written(), *written);
+        let (_, sink) = session_over(alloc, ran.keeper, b"state\nquiet\n")?;
+        let again: &[u8] = if *failing == 1 {
+            b"state records 0 orphans 0 due 0 leased 0 marked 0\nyes\n"
+        } else {
+            b"state records 1 orphans 0 due 1 leased 0 marked 0\nno\n"
+        };
+        assert_eq!(rt; sink.written(), again);
+    }
+    let keeper = keeper_of(
+        alloc,
+        &[
+            (Table::Counters, "arrival", "1"),
+            (Table::Counters, "number", "1"),
+            (Table::Shelf, "file:/r.json", "\"{\" "),
+        ],
+        0,
+    )?;
+    let (ran, sink) = session_over(alloc, keeper, OWNER)?;
+    assert_eq!(rt; ran.status, Status(6));
+    let refused: &[u8] = b"refused store shelf file:/r.json\n";
+    assert_eq!(rt; sink.written(), refused);
+    Ok(())
+}
+
+// Of three messages with one serial the first isn't kept, the second acts, and the third comes again.
+#[test]
+fn a_message_is_refused(rt: HostRuntime) -> Result<(), Fail> {
+    let alloc = rt.alloc();
+    let message: &[u8] =
+        b"POST /providers/git/full HTTP/1.1\r\nHost: x\r\nContent-Length: 26\r\n\r\n{\"serial\":1,\"entities\":[]}";
+    let messages = [message, message, message].concat(alloc)?;
+    let mut source = MemorySource::new(messages, 50, Vec::new(alloc));
+    let mut sink = MemorySink::new(1_000, Vec::new(alloc));
+    let keeper = keeper_of(alloc, &[], 2)?;
+    let ran = run_stored_connection(alloc, None, Place::Nowhere, keeper, &mut source, &mut sink);
+    assert_eq!(rt; ran.status, Status(0));
+    let wanted: &[u8] =
+        b"HTTP/1.1 503 Service Unavailable\r\nContent-Type: application/json\r\nContent-Length: 60\r\n\r\n{\"error\":{\"message\":\"keeper\"},\"response\":{\"statusCode\":503}}HTTP/1.1 200 OK\r\nContent-Type: application/json\r\nContent-Length: 15\r\n\r\n{\"again\":false}HTTP/1.1 200 OK\r\nContent-Type: application/json\r\nContent-Length: 14\r\n\r\n{\"again\":true}";
+    assert_eq!(rt; sink.written(), wanted);
+    Ok(())
+}
