@@ -4,3 +4,4 @@ pub mod SentStates
 pub mod SentTurns
 pub mod SentBooks
 pub mod SentHelpers
+pub mod SentStores

@@ -23,6 +23,7 @@ use Rattle.cat_shared.specs.contracts.entry.Entry as Entry
 use Rattle.cat_shared.specs.contracts.entry.Input as Input
 use Rattle.cat_shared.specs.contracts.entry.Noted as Noted
 use Rattle.cat_shared.specs.contracts.shared.SharedDesk as SharedDesk
+use Rattle.cat_shared.specs.declared.timed.TimedDesk as TimedDesk
 use Rattle.cat_shared.specs.contracts.tells.BookTells.TheImpl as tells
 use Rattle.cat_host.proofs.SentStates.{known, state_send, links_send, Map-send, Map-sync}
 use Rattle.cat_host.proofs.SentTurns.{turns_sync, pass_send}
@@ -78,7 +79,7 @@ noted_send = variants_send Noted.enum (
     (search known depth 60, tt),
     (
       (search known depth 60, (search known depth 60, (search known depth 60, tt))),
-      ((search known depth 60, (search known depth 60, tt)), ((search known depth 60, tt), ((search known depth 60, (search known depth 60, tt)), tt))),
+      ((search known depth 60, (search known depth 60, tt)), ((search known depth 60, tt), ((search known depth 60, (search known depth 60, tt)), (tt, tt)))),
     ),
   ),
 )
@@ -92,28 +93,28 @@ ledger_send : IsSend Ledger.the_row
 ledger_send = declared_send Ledger.the_type (search known depth 60, (state_send, tt))
 
 module _ (L : RattleType) (layers : Layers.Ghosts L.Denot) (l : IsSend L) where
-  catalogue_send : IsSend (Catalogue.the_row L layers)
+  pub catalogue_send : IsSend (Catalogue.the_row L layers)
   catalogue_send = view_send _ _ _ _ _ (declared_send (within.the_type L layers) (search (l, known) depth 60, (ledger_send, (search (links_send, known) depth 20, tt))))
 
   module _ (C : RattleType) (c : IsSend C) where
     timed_send : IsSend (Timed.the_row L C layers)
     timed_send = declared_send (Timed.the_type L C layers) (catalogue_send, (search (c, known) depth 60, tt))
 
-    fed_send : IsSend (Fed.the_row L C layers)
+    pub fed_send : IsSend (Fed.the_row L C layers)
     fed_send = declared_send (Fed.the_type L C layers) (timed_send, (search (Map-send, Map-sync, known) depth 60, tt))
 
 -- ---- books and their shares
 
-module _ (L C N : RattleType) (layers : Layers.Ghosts L.Denot) (clock : Clock.Ghosts C.Denot) (named : Named.Ghosts N.Denot) where
-  pub book_send : IsSend L → IsSend C → IsSend N → IsSend (Book.the_row L C N layers clock named)
-  book_send l c n = declared_send (Book.the_type L C N layers clock named) (fed_send L layers l C c, (Vec-send Entry.the_row entry_send, (search (n, known) depth 60, tt)))
+module _ (L B N : RattleType) (layers : Layers.Ghosts L.Denot) (timed : TimedDesk.Ghosts B.Denot L.Denot) (named : Named.Ghosts N.Denot) where
+  pub book_send : IsSend L → IsSend B → IsSend N → IsSend (Book.the_row L B N layers timed named)
+  book_send l d n = declared_send (Book.the_type L B N layers timed named) (search (d, known) depth 20, (Vec-send Entry.the_row entry_send, (search (l, known) depth 60, (search (n, known) depth 60, tt))))
 
   module _ (a : NamedLft) (R : RattleType) where
-    pub shared_send : IsSend (Book.the_row L C N layers clock named) → IsSync R → IsSend (SharedDesk.the_row a L C N R layers clock named)
-    shared_send b r = declared_send (SharedDesk.the_type a L C N R layers clock named) (
+    pub shared_send : IsSend (Book.the_row L B N layers timed named) → IsSync R → IsSend (SharedDesk.the_row a L B N R layers timed named)
+    shared_send b r = declared_send (SharedDesk.the_type a L B N R layers timed named) (
       search (r, known) depth 20,
       (
-        shr_send _ _ (Turns.the_row (Book.the_row L C N layers clock named) Entry.the_row (tells.ghosts L C N layers tells.no_dict clock tells.no_dict named tells.no_dict)) (turns_sync (Book.the_row L C N layers clock named) Entry.the_row (tells.ghosts L C N layers tells.no_dict clock tells.no_dict named tells.no_dict) b),
-        (pass_send (Book.the_row L C N layers clock named) Entry.the_row (tells.ghosts L C N layers tells.no_dict clock tells.no_dict named tells.no_dict) b, tt),
+        shr_send _ _ (Turns.the_row (Book.the_row L B N layers timed named) Entry.the_row (tells.ghosts L B N layers tells.no_dict timed tells.no_dict named tells.no_dict)) (turns_sync (Book.the_row L B N layers timed named) Entry.the_row (tells.ghosts L B N layers tells.no_dict timed tells.no_dict named tells.no_dict) b),
+        (pass_send (Book.the_row L B N layers timed named) Entry.the_row (tells.ghosts L B N layers tells.no_dict timed tells.no_dict named tells.no_dict) b, tt),
       ),
     )

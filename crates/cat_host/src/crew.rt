@@ -9,12 +9,11 @@ use crate::working::{Part, Working};
 use cat_api::service::Service;
 use cat_core::catalogue::{Done, Stitched};
 use cat_doors::{Doors, Ended};
-use cat_fed::fed::Fed;
 use cat_hold::layers::Layers;
-use cat_io::Clock;
 use cat_serve::{Helper, serve};
 use cat_shared::book::{Book, Named};
 use cat_shared::shared::SharedDesk;
+use cat_shared::timed::TimedDesk;
 use cat_turns::{Pass, Turns};
 use std::alloc::{AllocError, Global};
 use std::marker::Brand;
@@ -41,21 +40,21 @@ impl Crew {
 }
 
 /// A server that answers messages at its share of a book.
-type ShareServer<'a, L, C, N, R> = Answering<
-    Service<Done<'a, L>, Stitched<'a, L>, SharedDesk<'a, L, C, N, R>>,
+type ShareServer<'a, L, B, N, R> = Answering<
+    Service<Done<'a, L>, Stitched<'a, L>, SharedDesk<'a, L, B, N, R>>,
 >;
 
 /// A worker at its share of a book.
-type ShareWorker<'a, L, C, N, R> = Working<'a, L, Share<'a, L, C, N, R>>;
+type ShareWorker<'a, L, B, N, R> = Working<'a, L, Share<'a, L, B, N, R>>;
 
 // Shares of a book, as many as this where so many seats are free. The last one is that of the given pass.
-fn shares<'a, L: Layers + Drop, C: Clock + Drop, N: Named, R: Wait>(
+fn shares<'a, L: Layers + Drop, B: TimedDesk<L> + Drop, N: Named, R: Wait>(
     rt: &'a R,
     alloc: Global,
-    turns: &'a Turns<Book<L, C, N>>,
-    pass: Pass<Book<L, C, N>>,
+    turns: &'a Turns<Book<L, B, N>>,
+    pass: Pass<Book<L, B, N>>,
     count: u64,
-) -> Result<Vec<SharedDesk<'a, L, C, N, R>>, AllocError>
+) -> Result<Vec<SharedDesk<'a, L, B, N, R>>, AllocError>
     requires own { pass.turns ≡ turns.now.id }
 {
     let mut own = pass;
@@ -70,13 +69,13 @@ fn shares<'a, L: Layers + Drop, C: Clock + Drop, N: Named, R: Wait>(
 }
 
 // What the helper at a place of the list does at its share.
-fn helper<'a, L: Layers + Drop, C: Clock + Drop, N: Named, R: Wait>(
+fn helper<'a, L: Layers + Drop, B: TimedDesk<L> + Drop, N: Named, R: Wait>(
     alloc: Global,
     layers: &'a L,
     crew: Crew,
     place: u64,
-    desk: SharedDesk<'a, L, C, N, R>,
-) -> Helper<ShareServer<'a, L, C, N, R>, ShareWorker<'a, L, C, N, R>> {
+    desk: SharedDesk<'a, L, B, N, R>,
+) -> Helper<ShareServer<'a, L, B, N, R>, ShareWorker<'a, L, B, N, R>> {
     if place < crew.connections {
         return Helper::Serves(Answering::new(alloc, Service::new(alloc, desk)));
     }
@@ -89,12 +88,12 @@ fn helper<'a, L: Layers + Drop, C: Clock + Drop, N: Named, R: Wait>(
 }
 
 // Helpers over these shares: servers first, then workers of orders and of documents in turn.
-fn helpers<'a, L: Layers + Drop, C: Clock + Drop, N: Named, R: Wait>(
+fn helpers<'a, L: Layers + Drop, B: TimedDesk<L> + Drop, N: Named, R: Wait>(
     alloc: Global,
     layers: &'a L,
     crew: Crew,
-    shares: Vec<SharedDesk<'a, L, C, N, R>>,
-) -> Result<Vec<Helper<ShareServer<'a, L, C, N, R>, ShareWorker<'a, L, C, N, R>>>, AllocError> {
+    shares: Vec<SharedDesk<'a, L, B, N, R>>,
+) -> Result<Vec<Helper<ShareServer<'a, L, B, N, R>, ShareWorker<'a, L, B, N, R>>>, AllocError> {
     let mut left = shares;
     let mut helpers = Vec::new(alloc);
     for place in 0..crew.helpers() {
@@ -109,7 +108,7 @@ fn helpers<'a, L: Layers + Drop, C: Clock + Drop, N: Named, R: Wait>(
 fn host_under<
     N: Named + Send + Sync,
     L: Layers + Send + Sync + Drop,
-    C: Clock + Drop + Send,
+    B: TimedDesk<L> + Drop + Send,
     D: Doors + Send,
     R: Threads + Wait + Sync,
 >(
@@ -117,18 +116,19 @@ fn host_under<
     alloc: Global,
     layers: &L,
     crew: Crew,
-    fed: Fed<L, C>,
+    desk: B,
     doors: &mut D,
 ) -> Result<Ended, AllocError>
     requires crew { 0 < crew.connections }
-    requires settings { fed.timed.catalogue.settings ≡ N.settings }
-    requires opening { fed.timed.catalogue.state ≡ N.opening }
-    requires sound { Sound L.rules fed.timed.catalogue.state }
+    requires settings { (B.ledger desk).settings ≡ N.settings }
+    requires opening { (B.ledger desk).state ≡ N.opening }
+    requires faults { B.faults desk ≡ N.faults }
+    requires sound { Sound L.rules (B.ledger desk).state }
     ensures cause { IfOk result (λ ended. HasCause ended (D.faults doors.old) (D.faults doors.new) (D.closed doors.new)) }
     ensures later { D.faults doors.old ≤ D.faults doors.new }
     ensures memory { OnErr result (doors.new ≡ doors.old) }
 {
-    let book: Book<L, C, N> = Book::new(alloc, fed);
+    let book: Book<L, B, N> = Book::new(alloc, desk);
     let Ok((turns, pass)) = Turns::new(alloc, book, crew.helpers()) else {
         return Err(AllocError);
     };
@@ -138,12 +138,13 @@ fn host_under<
 }
 
 /// Serves a catalogue over doors that listen, until they let in no more: so many connections at once, and so many pairs of workers beside
-/// them, all over one book. Orders are worked by `layers`, while others have the book.
+/// them, all over one book. Orders are worked by `layers`, while others have the book. A catalogue that a store keeps is one whose changes are kept
+/// before they are answered.
 ///
 /// The only error is want of memory for the book and the helpers; no connection was let in then. A connection that fails ends alone.
 pub fn host<
     L: Layers + Send + Sync + Drop,
-    C: Clock + Drop + Send,
+    B: TimedDesk<L> + Drop + Send,
     D: Doors + Send,
     R: Threads + Wait + Sync,
 >(
@@ -151,18 +152,18 @@ pub fn host<
     alloc: Global,
     layers: &L,
     crew: Crew,
-    fed: Fed<L, C>,
+    desk: B,
     doors: &mut D,
 ) -> Result<Ended, AllocError>
     requires crew { 0 < crew.connections }
 
     // What must hold between two events holds of the catalogue.
-    requires sound { Sound L.rules fed.timed.catalogue.state }
+    requires sound { Sound L.rules (B.ledger desk).state }
 
     // It says that the doors have closed, or that they failed, only where they did.
     ensures cause { IfOk result (λ ended. HasCause ended (D.faults doors.old) (D.faults doors.new) (D.closed doors.new)) }
     ensures later { D.faults doors.old ≤ D.faults doors.new }
     ensures memory { OnErr result (doors.new ≡ doors.old) }
 {
-    host_under::<Brand, L, C, D, R>(rt, alloc, layers, crew, fed, doors)
+    host_under::<Brand, L, B, D, R>(rt, alloc, layers, crew, desk, doors)
 }

@@ -1,6 +1,6 @@
 //! A catalogue as a server: connections that are answered and workers that work, all over one book.
 //!
-//! `host` puts a catalogue with its clock and feed into a book, gives each of its helpers a share of it, and runs them beside each other
+//! `host` puts a catalogue with its clock and feed, which a store may keep, into a book, gives each of its helpers a share of it, and runs them beside each other
 //! over doors that listen. A server answers the messages of one connection after another at its share (`Answering`); a worker takes
 //! orders at its share, works them apart from the book, and brings the results back (`Working`), until no server runs. So no order is
 //! worked while others wait for the book.

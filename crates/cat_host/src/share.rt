@@ -6,30 +6,30 @@ use cat_core::catalogue::{Done, Stitched};
 use cat_desk::command::{Command, Reply};
 use cat_desk::desk::Desk;
 use cat_hold::layers::Layers;
-use cat_io::Clock;
 use cat_model::types::{Order, StitchOrder};
 use cat_shared::book::Named;
 use cat_shared::shared::SharedDesk;
+use cat_shared::timed::TimedDesk;
 use cat_work::desk::WorkDesk;
 use std::alloc::{AllocError, Global};
 use std::sync::Wait;
 
 /// A share of a book at which a worker takes orders and brings back their results. An order is worked before the turn is waited for.
 #[derive(Drop)]
-pub struct Share<'a, L: Layers, C: Clock, N: Named, R: Wait> {
-    desk: SharedDesk<'a, L, C, N, R>,
+pub struct Share<'a, L: Layers, B: TimedDesk<L>, N: Named, R: Wait> {
+    desk: SharedDesk<'a, L, B, N, R>,
 }
 
-impl<'a, L: Layers, C: Clock, N: Named, R: Wait> Share<'a, L, C, N, R> {
+impl<'a, L: Layers, B: TimedDesk<L>, N: Named, R: Wait> Share<'a, L, B, N, R> {
     /// A worker's desk over a share. It takes no memory.
-    pub fn over(desk: SharedDesk<'a, L, C, N, R>) -> Share<'a, L, C, N, R>
+    pub fn over(desk: SharedDesk<'a, L, B, N, R>) -> Share<'a, L, B, N, R>
         ensures { result.desk ≡ desk.entry }
     {
         Share { desk }
     }
 }
 
-impl<'a, L: Layers, C: Clock, N: Named, R: Wait> WorkDesk<L> for Share<'a, L, C, N, R> {
+impl<'a, L: Layers, B: TimedDesk<L>, N: Named, R: Wait> WorkDesk<L> for Share<'a, L, B, N, R> {
     ghost acts = { λ old d new reply. SharedActs L.rules N.settings N.opening d old.desk.pass new.desk.pass reply };
 
     fn take(&mut self, alloc: Global) -> Reply {

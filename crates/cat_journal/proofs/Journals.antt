@@ -1,19 +1,18 @@
 -- What a crash leaves at a moment is a journal with the right rows.
-use Rattle.std.proofs.Common.{◌≡◌, ◌≢◌, ◌⊎◌, inl, inr, ⊎_elim, ℕ, ◌+◌, ◌^◌, ◌<◌, ◌≤◌, List, [], ◌∷◌, ◌++◌, Some, length, take, drop, get_or, refl, sym, ◌∙◌, ap, subst, arith, append_assoc, length-append}
+use Rattle.std.proofs.Common.{◌≡◌, ◌⊎◌, inl, inr, ⊎_elim, ℕ, ◌+◌, ◌^◌, ◌<◌, ◌≤◌, List, [], ◌∷◌, ◌++◌, Some, length, take, drop, get_or, refl, sym, ◌∙◌, ap, subst, arith, append_assoc, length-append}
 use Rattle.std.specs.Prelude.{IsSome}
 use Rattle.std.proofs.lemmas.Bool.Decides.{nat_tests}
 use Rattle.std.proofs.lemmas.List.{length-take-le, ext_get_or, get_or-take, get_or-drop, take_at, drop_at, drop-drop}
 use Rattle.std.proofs.lemmas.Nat.{from_be_bytes-to_be_bytes_8}
 use Rattle.std.proofs.Math.Seq.{get_or-append_seam}
 use Rattle.std.specs.Int.{from_be_bytes, to_be_bytes, w64}
-use Rattle.cat_disk.specs.Moments.{Moment, Covers, IsImage, reach, overwritten}
-use Rattle.cat_disk.proofs.Images.{within, longer}
+use Rattle.cat_disk.specs.Moments.{Moment, IsImage, overwritten}
+use Rattle.cat_disk.proofs.Images.{longer}
 use Rattle.cat_keeper.specs.Store.{Changes, Rows, applied}
 use Rattle.cat_journal.specs.Parsed.{batch_of}
 use Rattle.cat_journal.specs.declared.records.Gate.TheVariants.{Shut}
-use Rattle.cat_journal.specs.declared.records.Scanned.TheVariants.{Found}
-use Rattle.cat_journal.specs.Records.{header, gate_of, count_at, body_at, Passes, AreBatches, after_batch, rows_after, rows_of, HasRecords, Scans, closed_record}
-use Rattle.cat_journal.specs.Left.{HasNext, IsClosed, IsJournal, IsOneOf, AreRows, IsLeft, Leaves, IsShut, IsHeld, IsOpen, IsShort}
+use Rattle.cat_journal.specs.Records.{header, gate_of, count_at, Passes, after_batch, rows_of, HasRecords, closed_record}
+use Rattle.cat_journal.specs.Left.{HasNext, IsClosed, IsOneOf, AreRows, IsLeft, Leaves, IsShut, IsHeld, IsOpen}
 use Rattle.cat_journal.proofs.Passing.{passes_ahead, rows-push, batches-push}
 use Rattle.cat_journal.proofs.Crash.{Agree, slice_same, count_same, passes_same, behind_gate, on_gate}
 

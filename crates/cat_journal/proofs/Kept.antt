@@ -1,7 +1,7 @@
 -- What a keeper over a journal tells after its calls.
-use Rattle.std.proofs.Common.{◌≡◌, ◌≢◌, ◌⊎◌, inl, inr, ⊎_elim, ℕ, ◌+◌, ◌-◌, ◌^◌, ◌<◌, ◌≤◌, List, [], ◌∷◌, ◌++◌, Option, None, Some, length, get_or, refl, sym, ◌∙◌, ap, subst, arith}
-use Rattle.std.specs.Prelude.{⊤, IsSome, is_some, option_map}
-use Rattle.cat_disk.specs.Moments.{Moment, IsImage}
+use Rattle.std.proofs.Common.{◌≡◌, ◌≢◌, ◌⊎◌, inl, inr, ℕ, ◌+◌, ◌-◌, ◌^◌, ◌<◌, List, [], ◌∷◌, ◌++◌, Option, None, Some, length, refl, sym, ◌∙◌, ap, subst, arith}
+use Rattle.std.specs.Prelude.{IsSome, is_some, option_map}
+use Rattle.cat_disk.specs.Moments.{Moment}
 use Rattle.cat_disk.specs.declared.disk.DiskDone.TheVariants.{Done, Failed as NotDone}
 use Rattle.cat_disk.specs.Disk.{StartsWithin}
 use Rattle.cat_keeper.specs.Answers.{Stays, Are, Loads, Commits}
@@ -12,9 +12,9 @@ use Rattle.cat_keeper.specs.declared.keeper.Committed.TheVariants.{Kept as Commi
 use Rattle.cat_journal.specs.Parsed.{batch_of}
 use Rattle.cat_journal.specs.Batches.{batch_text, IsText}
 use Rattle.cat_journal.specs.Records.{Passes, rows_of, bodies_to, closed_record}
-use Rattle.cat_journal.specs.Left.{Now, IsShut, IsHeld, IsOpen, IsShort}
+use Rattle.cat_journal.specs.Left.{Now, IsShut, IsHeld, IsOpen}
 use Rattle.cat_journal.specs.Writes.{Seen, Puts, Shuts}
-use Rattle.cat_journal.specs.Loads.{IsKnown, Holds, IsSafe, IsFound, decided, LoadsAgain, LoadsFirst}
+use Rattle.cat_journal.specs.Loads.{IsKnown, IsSafe, IsFound, decided, LoadsAgain, LoadsFirst}
 use Rattle.cat_journal.specs.Keeps.{told, IsUsable, IsReady, PutsKnown, IsDamage}
 use Rattle.cat_journal.specs.declared.gate.Put.{Put}
 use Rattle.cat_journal.specs.declared.gate.Put.TheVariants.{Kept, Behind, AtGate}
@@ -22,11 +22,11 @@ use Rattle.cat_journal.specs.declared.load.Known.{Known}
 use Rattle.cat_journal.specs.declared.load.Known.TheVariants.{Nothing, Closed, Doubtful}
 use Rattle.cat_journal.specs.declared.load.Loading.TheVariants.{Found as Loaded, Damaged as Harmed, Failed, NoMemory}
 use Rattle.cat_journal.proofs.Laws.{text_is_batch}
-use Rattle.cat_journal.proofs.Passing.{bodies_back, passes_ahead}
+use Rattle.cat_journal.proofs.Passing.{bodies_back}
 use Rattle.cat_journal.proofs.Crash.{passes_same}
 use Rattle.cat_journal.proofs.Journals.{shut_records, rows_more}
 use Rattle.cat_journal.proofs.Steps.{weaker}
-use Rattle.cat_journal.proofs.Takes.{seen, silent_now}
+use Rattle.cat_journal.proofs.Takes.{seen}
 
 -- ---- what is told
 

@@ -1,6 +1,6 @@
 -- The batch that bytes are the text of, in both directions.
 use Rattle.std.proofs.Common.{◌≡◌, List, ℕ, Bool, true, false, true≢false, Result, Ok, Err, Option, Some, None, refl, sym, ◌∙◌, ap}
-use Rattle.std.specs.Prelude.{IsSome, is_some, IsTrue, ◌&&◌, ◌↔◌, bytes_eq, option_and_then, if◌then◌else◌, IsUtf8}
+use Rattle.std.specs.Prelude.{is_some, IsTrue, ◌&&◌, bytes_eq, option_and_then, if◌then◌else◌}
 use Rattle.std.proofs.lemmas.Str.{IsUtf8-from_is_utf8, is_utf8-from_IsUtf8}
 use Rattle.std.proofs.lemmas.Slice.Eq.{bytes_eq-Decides}
 use Rattle.std.specs.FinMap.Entries.{is_sorted}
@@ -8,10 +8,10 @@ use Rattle.std.specs.Str.{is_utf8}
 use Rattle.serde_json.specs.Data as json
 use Rattle.serde_json.specs.Read.{read}
 use Rattle.serde_json.specs.Written.{has_float}
-use Rattle.cat_tree.specs.Read.{ReadsAs, tree_of}
+use Rattle.cat_tree.specs.Read.{tree_of}
 use Rattle.cat_keeper.specs.Store.{Changes, Rows, row_cmp, applied}
 use Rattle.cat_journal.specs.Records.{AppliesBody, after_batch}
-use Rattle.cat_journal.specs.Batches.{batch_data, batch_text, IsText}
+use Rattle.cat_journal.specs.Batches.{batch_text, IsText}
 use Rattle.cat_journal.specs.Parsed.{changes_in, checked, batch_in, batch_of}
 use Rattle.cat_journal.specs.declared.body.BodyFault.{BodyFault}
 use Rattle.cat_journal.proofs.Texts.{text_reads, changes_back}

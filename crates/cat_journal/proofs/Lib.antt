@@ -10,3 +10,4 @@ pub mod Loadings
 pub mod Kept
 pub mod Standing
 pub mod Histories
+pub mod Scanning

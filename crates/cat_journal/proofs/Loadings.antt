@@ -1,8 +1,6 @@
 -- A load from its reading on, and as a whole.
-use Rattle.std.proofs.Common.{◌≡◌, ◌≢◌, ◌⊎◌, inl, inr, ⊎_elim, ℕ, ◌+◌, ◌<◌, ◌≤◌, List, [], ◌∷◌, ◌++◌, Some, length, get_or, refl, sym, ◌∙◌, ap, subst, arith}
-use Rattle.std.specs.Prelude.{⊤}
+use Rattle.std.proofs.Common.{◌≡◌, ◌≢◌, ◌⊎◌, inl, inr, ⊎_elim, ℕ, ◌+◌, ◌<◌, ◌≤◌, List, [], ◌∷◌, ◌++◌, length, get_or, refl, sym, ◌∙◌, ap, subst, arith}
 use Rattle.cat_disk.specs.declared.disk.DiskRead.TheVariants.{Read}
-use Rattle.cat_disk.specs.declared.disk.DiskDone.{DiskDone}
 use Rattle.cat_disk.specs.declared.disk.DiskDone.TheVariants.{Done, Failed as NotDone}
 use Rattle.cat_disk.specs.Moments.{Moment, IsImage}
 use Rattle.cat_disk.specs.Disk as disk
@@ -10,7 +8,7 @@ use Rattle.cat_keeper.specs.Store.{Changes, Rows}
 use Rattle.cat_journal.specs.Records.{Passes, HasRecords, gate_of, rows_of, Scans}
 use Rattle.cat_journal.specs.declared.records.Gate.TheVariants.{Shut}
 use Rattle.cat_journal.specs.declared.records.Scanned.TheVariants.{Found, Damaged}
-use Rattle.cat_journal.specs.Left.{Now, IsShut, IsHeld, IsShort, LeavesOnly, IsLeft}
+use Rattle.cat_journal.specs.Left.{Now, IsShut}
 use Rattle.cat_journal.specs.Writes.{Seen}
 use Rattle.cat_journal.specs.Loads.{IsKnown, IsWhole, Holds, IsPlaced, IsSafe, IsDecided, decided, Settles, Fits, FitsSome, TakesUp, IsClosedBy, TakesUpSafely, Takes, TakesSafely, IsFound, Reads, LoadsAgain, LoadsFirst}
 use Rattle.cat_journal.specs.declared.load.Known.{Known}

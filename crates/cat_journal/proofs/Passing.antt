@@ -1,11 +1,11 @@
 -- How the records of a journal follow one another.
-use Rattle.std.proofs.Common.{◌≡◌, ◌≢◌, ◌⊎◌, ℕ, zero, suc, ◌+◌, ◌<◌, ◌≤◌, List, [], ◌∷◌, ◌++◌, Bool, true, false, Option, None, Some, length, drop, get_or, refl, sym, ◌∙◌, ap, subst, inl, inr, ⊎_elim, arith, length-drop}
-use Rattle.std.specs.Prelude.{IsSome, if◌then◌else◌, ◌==◌}
+use Rattle.std.proofs.Common.{◌≡◌, ℕ, zero, suc, ◌+◌, ◌<◌, ◌≤◌, List, [], ◌∷◌, ◌++◌, Option, None, Some, length, drop, refl, sym, ◌∙◌, ap, subst, inl, inr, arith, length-drop}
+use Rattle.std.specs.Prelude.{IsSome}
 use Rattle.std.proofs.lemmas.Bool.Decides.{nat_tests}
 use Rattle.std.proofs.lemmas.List.{length-take-le}
-use Rattle.cat_keeper.specs.Store.{Changes, Rows}
+use Rattle.cat_keeper.specs.Store.{Rows}
 use Rattle.cat_journal.specs.Parsed.{batch_of}
-use Rattle.cat_journal.specs.declared.records.Gate.TheVariants.{Shut, Open, Broken}
+use Rattle.cat_journal.specs.declared.records.Gate.TheVariants.{Shut, Open}
 use Rattle.cat_journal.specs.declared.records.Scanned.{Scanned}
 use Rattle.cat_journal.specs.declared.records.Scanned.TheVariants.{Found, Damaged}
 use Rattle.cat_journal.specs.Records.{gate_of, count_at, body_at, Passes, AreBatches, after_batch, rows_after, rows_of, HasRecords, IsRefusedAt, Scans, bodies_to}

@@ -1,20 +1,20 @@
 -- The writes of a journal, call by call.
-use Rattle.std.proofs.Common.{◌≡◌, ◌⊎◌, inl, inr, ℕ, ◌+◌, ◌^◌, ◌<◌, ◌≤◌, max, List, [], ◌∷◌, ◌++◌, Some, length, take, drop, get_or, refl, sym, ◌∙◌, ap, subst, arith}
+use Rattle.std.proofs.Common.{◌≡◌, inl, inr, ℕ, ◌+◌, ◌^◌, ◌<◌, ◌≤◌, List, [], ◌∷◌, ◌++◌, Some, length, take, get_or, refl, sym, ◌∙◌, ap, subst, arith}
 use Rattle.std.specs.Prelude.{IsSome, is_some}
 use Rattle.std.proofs.lemmas.List.{drop_all}
 use Rattle.cat_disk.specs.declared.disk.DiskDone.{DiskDone}
 use Rattle.cat_disk.specs.declared.disk.DiskDone.TheVariants.{Done, Failed}
-use Rattle.cat_disk.specs.Moments.{Moment, Covers, Extent, IsImage, reach, overwritten, written, synced, AddsWrite, AddsSync}
+use Rattle.cat_disk.specs.Moments.{Moment, Covers, Extent, IsImage, reach, overwritten, synced, AddsWrite, AddsSync}
 use Rattle.cat_disk.specs.Disk.{StartsWithin, Writes, Syncs}
 use Rattle.cat_disk.proofs.Images.{within, longer}
 use Rattle.cat_keeper.specs.Store.{Changes}
 use Rattle.cat_journal.specs.Parsed.{batch_of}
-use Rattle.cat_journal.specs.Records.{header, rows_of, closed_record}
+use Rattle.cat_journal.specs.Records.{rows_of, closed_record}
 use Rattle.cat_journal.specs.Left.{Now, HasNext, IsShut, IsHeld, IsOpen, IsShort, IsBare, IsOneOf, Leaves, LeavesOnly, IsLeft}
 use Rattle.cat_journal.specs.Writes.{Seen, Shuts, KeepsNext, ShutsSafely, Puts, PutsSafely, Begins, BeginsSafely}
-use Rattle.cat_journal.specs.declared.gate.Put.TheVariants.{Kept, Behind, AtGate}
+use Rattle.cat_journal.specs.declared.gate.Put.TheVariants.{Behind}
 use Rattle.cat_journal.proofs.Journals.{settled, short_left, shut_left, open_left, more_rows, shut_settled, held_settled, open_settled, text_size, record_stands}
-use Rattle.cat_journal.proofs.Steps.{pend, write_now, write_content, torn_now, sync_now, sync_content, unsynced_now, write_leaves, sync_leaves, no_moment, starts_silent}
+use Rattle.cat_journal.proofs.Steps.{pend, write_now, write_content, torn_now, sync_now, unsynced_now, write_leaves, sync_leaves, no_moment, starts_silent}
 
 abbrev seen : List Moment → List ℕ → Seen
 seen ms c = record { moments = ms; content = c }

@@ -1,24 +1,22 @@
 -- The rows of a journal stand through every call, and through every crash.
 use Rattle.std.proofs.Common.{◌≡◌, ◌≢◌, ◌⊎◌, inl, inr, ⊎_elim, ℕ, ◌+◌, ◌<◌, ◌≤◌, List, [], ◌∷◌, ◌++◌, Some, length, get_or, refl, sym, ◌∙◌, ap, subst, arith}
-use Rattle.std.specs.Prelude.{⊤, IsSome, is_some}
-use Rattle.std.specs.List.{AllByRecursion}
+use Rattle.std.specs.Prelude.{IsSome, is_some}
 use Rattle.cat_disk.specs.declared.disk.DiskDone.{DiskDone}
 use Rattle.cat_disk.specs.declared.disk.DiskDone.TheVariants.{Done, Failed as NotDone}
-use Rattle.cat_disk.specs.Moments.{Moment, IsImage, AddsSync}
+use Rattle.cat_disk.specs.Moments.{Moment, AddsSync}
 use Rattle.cat_disk.specs.Disk.{Syncs}
 use Rattle.cat_keeper.specs.Store.{Changes, Rows, applied}
 use Rattle.cat_journal.specs.Parsed.{batch_of}
-use Rattle.cat_journal.specs.Records.{HasRecords, gate_of, rows_of, closed_record, Scans}
-use Rattle.cat_journal.specs.declared.records.Gate.TheVariants.{Shut}
+use Rattle.cat_journal.specs.Records.{rows_of, closed_record, Scans}
 use Rattle.cat_journal.specs.declared.records.Scanned.TheVariants.{Found as Scanned}
 use Rattle.cat_keeper.specs.declared.keeper.Loaded.{Loaded}
 use Rattle.cat_keeper.specs.declared.keeper.Loaded.TheVariants.{Rows as Given, Failed as NotLoaded, NoMemory as NoRoom}
 use Rattle.cat_keeper.specs.declared.keeper.Committed.TheVariants.{Kept as IsKept, Failed as NotKept, NoMemory as NoSpace}
-use Rattle.cat_journal.specs.Left.{Now, HasNext, IsShut, IsHeld, IsOpen, IsShort, IsBare, IsOneOf, IsClosed, Leaves, LeavesOnly, IsLeft}
+use Rattle.cat_journal.specs.Left.{Now, HasNext, IsShut, IsHeld, IsOpen, IsShort, IsOneOf, IsClosed, Leaves, LeavesOnly, IsLeft}
 use Rattle.cat_journal.specs.Writes.{Seen, Shuts, KeepsNext, ShutsSafely, Puts, PutsSafely, Begins}
-use Rattle.cat_journal.specs.Loads.{IsKnown, IsWhole, IsSafe, IsDecided, decided, Settles, Fits, FitsSome, IsClosedBy, Takes, TakesSafely}
+use Rattle.cat_journal.specs.Loads.{IsKnown, IsWhole, IsDecided, Fits, FitsSome, IsClosedBy, Takes, TakesSafely}
 use Rattle.cat_journal.specs.Keeps.{IsReady, JournalState}
-use Rattle.cat_journal.specs.Stands.{IsAtRest, IsSettled, SettlesSafely, Stands, TakesStill, LoadsStill, Gives, IsSafeLoad, AfterPut, IsSafePut, GivesRows, IsSafeLoaded, AfterCommit, IsSafeCommit}
+use Rattle.cat_journal.specs.Stands.{IsSettled, SettlesSafely, Stands, TakesStill, LoadsStill, IsSafeLoad, IsSafePut, IsSafeLoaded, IsSafeCommit}
 use Rattle.cat_journal.specs.declared.gate.Put.{Put}
 use Rattle.cat_journal.specs.declared.gate.Put.TheVariants.{Kept, Behind, AtGate}
 use Rattle.cat_journal.specs.declared.load.Known.{Known}
@@ -26,7 +24,7 @@ use Rattle.cat_journal.specs.declared.load.Known.TheVariants.{Nothing, Closed, D
 use Rattle.cat_journal.specs.declared.load.Loading.{Loading}
 use Rattle.cat_journal.specs.declared.load.Loading.TheVariants.{Found, Damaged, Failed, NoMemory}
 use Rattle.cat_journal.proofs.Passing.{passes_one, shut_ends}
-use Rattle.cat_journal.proofs.Journals.{settled, short_left, shut_left, records_left, shut_records, shut_settled, rows_more, no_room, small_or_large}
+use Rattle.cat_journal.proofs.Journals.{settled, short_left, shut_left, records_left, shut_records, rows_more, no_room, small_or_large}
 use Rattle.cat_journal.proofs.Steps.{weaker, sync_now, sync_content, unsynced_now, sync_leaves, no_moment, then_leaves}
 use Rattle.cat_journal.proofs.Loadings.{scan_inside, same_gate}
 use Rattle.cat_journal.proofs.Takes.{seen, silent_now, only, closed_settled, short_bodies, short_bare, at_eight, held_here, long_records, told_reads}

@@ -1,9 +1,9 @@
 -- What one call of a disk does to what is known of its last moment, and to what a crash leaves.
-use Rattle.std.proofs.Common.{◌≡◌, ◌⊎◌, inl, inr, ℕ, ◌≤◌, List, [], ◌∷◌, ◌++◌, length, refl, sym, ◌∙◌, ap, subst, arith}
+use Rattle.std.proofs.Common.{◌≡◌, inl, inr, ℕ, ◌≤◌, List, [], ◌∷◌, ◌++◌, length, refl, sym, ◌∙◌, ap, subst, arith}
 use Rattle.std.specs.List.{AllByRecursion}
 use Rattle.cat_disk.specs.declared.disk.DiskDone.{DiskDone}
 use Rattle.cat_disk.specs.declared.disk.DiskDone.TheVariants.{Done, Failed}
-use Rattle.cat_disk.specs.Moments.{Moment, Extent, IsImage, overwritten, written, synced, AddsWrite, AddsSync}
+use Rattle.cat_disk.specs.Moments.{Moment, IsImage, overwritten, written, synced, AddsWrite, AddsSync}
 use Rattle.cat_disk.specs.Disk.{StartsWithin, Writes, Syncs}
 use Rattle.cat_disk.proofs.Images.{written_image}
 use Rattle.cat_journal.specs.Left.{Now, Leaves, LeavesOnly}

@@ -1,12 +1,10 @@
 -- A load, call by call.
-use Rattle.std.proofs.Common.{◌≡◌, ◌≢◌, ◌⊎◌, inl, inr, ⊎_elim, ℕ, ◌+◌, ◌<◌, ◌≤◌, List, [], ◌∷◌, ◌++◌, Some, length, get_or, refl, sym, ◌∙◌, ap, subst, arith}
+use Rattle.std.proofs.Common.{◌≡◌, ◌≢◌, ◌⊎◌, inl, inr, ℕ, ◌<◌, ◌≤◌, List, [], ◌∷◌, length, get_or, refl, sym, ◌∙◌, ap, subst, arith}
 use Rattle.std.proofs.lemmas.List.{ext_get_or}
-use Rattle.std.specs.Prelude.{⊤}
 use Rattle.cat_disk.specs.declared.disk.DiskDone.{DiskDone}
 use Rattle.cat_disk.specs.declared.disk.DiskDone.TheVariants.{Done, Failed}
 use Rattle.cat_disk.specs.Moments.{Moment, Covers, Extent, IsImage, reach, AddsSync}
 use Rattle.cat_disk.specs.Disk.{StartsWithin, Syncs}
-use Rattle.cat_keeper.specs.Store.{Changes}
 use Rattle.cat_journal.specs.Records.{HasRecords, rows_of}
 use Rattle.cat_journal.specs.Left.{Now, HasNext, IsShut, IsHeld, IsOpen, IsShort, IsBare, LeavesOnly, IsLeft}
 use Rattle.cat_journal.specs.Writes.{Seen, Shuts, ShutsSafely, Begins, BeginsSafely}

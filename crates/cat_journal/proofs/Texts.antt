@@ -1,13 +1,8 @@
 -- The text of a batch and the tree that is read of it.
-use Rattle.std.proofs.Common.{◌≡◌, ◌≢◌, ℕ, zero, suc, ◌^◌, ◌<◌, ◌≤◌, max, pos, negsuc, List, [], ◌∷◌, ◌++◌, Bool, true, false, true≢false, ◌⊎◌, inl, inr, Result, Ok, Err, Option, Some, None, map, length, get_or, refl, sym, ◌∙◌, ap, subst, arith, append_assoc, append-nil}
-use Rattle.std.specs.Prelude.{IsTrue, ◌&&◌, ◌↔◌, bytes_eq, option_and_then, if◌then◌else◌, IsUtf8}
+use Rattle.std.proofs.Common.{◌≡◌, ◌≢◌, ℕ, zero, suc, ◌^◌, ◌<◌, ◌≤◌, pos, negsuc, List, [], ◌∷◌, ◌++◌, Bool, true, false, true≢false, ◌⊎◌, inl, inr, Result, Ok, Err, Some, map, length, get_or, refl, sym, ◌∙◌, ap, subst, arith, append_assoc}
+use Rattle.std.specs.Prelude.{IsTrue, ◌↔◌, IsUtf8}
 use Rattle.std.proofs.lemmas.Bool.Decides.{nat_tests}
-use Rattle.std.proofs.lemmas.Str.{IsUtf8-from_is_utf8, is_utf8-from_IsUtf8}
 use Rattle.std.specs.FinMap.Entries.{is_sorted}
-use Rattle.std.specs.Str.{is_utf8}
-use Rattle.serde_json.specs.Data as json
-use Rattle.serde_json.specs.Read.{read}
-use Rattle.serde_json.specs.Written.{has_float}
 use Rattle.cat_tree.specs.Ask.{depth_of, items_depth}
 use Rattle.cat_tree.specs.Data.{Data, null, flag, whole, words, list, dict, Items, no_items, item, items_of}
 use Rattle.cat_tree.specs.Proper.{IsNarrow, ItemsNarrow, IsProper, ItemsProper}
@@ -23,7 +18,7 @@ use Rattle.cat_keeper.specs.declared.table.Table.TheVariants.{Counters, Provider
 use Rattle.cat_keeper.specs.declared.rows.Change.{Change}
 use Rattle.cat_keeper.specs.declared.rows.Change.TheVariants.{Put, Gone}
 use Rattle.cat_journal.specs.Batches.{change_data, batch_data, batch_text, IsText, table_data}
-use Rattle.cat_journal.specs.Parsed.{and_then, with_front, onto, number_in, table_at, table_in, words_in, key_in, gone_in, put_in, change_of, change_in, changes_of, changes_in, checked, batch_in, batch_of}
+use Rattle.cat_journal.specs.Parsed.{and_then, with_front, onto, number_in, table_at, table_in, words_in, key_in, gone_in, put_in, change_of, change_in, changes_of, changes_in}
 use Rattle.cat_journal.specs.declared.body.BodyFault.{BodyFault}
 use Rattle.cat_journal.specs.declared.body.BodyFault.TheVariants.{NoBatch, NoMemory}
 

@@ -1,7 +1,7 @@
 -- What a keeper over a journal tells, and what its commits do.
-use Rattle.std.specs.Prelude.{◌≡◌, ◌⊎◌, ℕ, List, [], ◌∷◌, ◌++◌, ⊤, Bool, true, Option, None, Some, IsSome, codes, decimal, length}
+use Rattle.std.specs.Prelude.{◌≡◌, ◌⊎◌, ℕ, List, [], ◌∷◌, ◌++◌, ⊤, Bool, true, Option, None, Some, IsSome, codes, decimal}
 use Rattle.cat_disk.specs.Moments.{Moment}
-use Rattle.cat_keeper.specs.Store.{Changes, Rows}
+use Rattle.cat_keeper.specs.Store.{Rows}
 use Rattle.cat_keeper.specs.declared.keeper.Loaded.{Loaded}
 use Rattle.cat_keeper.specs.declared.keeper.Loaded.TheVariants.{Rows as Given, Failed, NoMemory}
 use Rattle.cat_keeper.specs.declared.table.Table.TheVariants.{Counters}

@@ -1,5 +1,5 @@
 -- What a crash leaves of a journal.
-use Rattle.std.specs.Prelude.{◌≡◌, ◌⊎◌, ℕ, ◌+◌, ◌<◌, ◌≤◌, List, [], ◌∷◌, ◌++◌, IsSome, Some, length, take, get_or}
+use Rattle.std.specs.Prelude.{◌≡◌, ◌⊎◌, ℕ, ◌+◌, ◌<◌, ◌≤◌, List, [], ◌∷◌, ◌++◌, IsSome, length, take, get_or}
 use Rattle.std.specs.List.{AllByRecursion}
 use Rattle.cat_disk.specs.Moments.{Moment, Covers, IsImage, reach}
 use Rattle.cat_keeper.specs.Store.{Changes, Rows, applied}

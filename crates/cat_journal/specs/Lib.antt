@@ -7,3 +7,4 @@ pub mod Loads
 pub mod Keeps
 pub mod Stands
 pub mod Histories
+pub mod Scanning

@@ -1,15 +1,13 @@
 -- What loads and commits do to what is known of a journal.
-use Rattle.std.specs.Prelude.{◌≡◌, ◌≢◌, ◌⊎◌, ℕ, ◌+◌, ◌-◌, ◌^◌, ◌<◌, ◌≤◌, List, [], ◌∷◌, ◌++◌, IsSome, Some, length, get_or, ⊤}
+use Rattle.std.specs.Prelude.{◌≡◌, ◌≢◌, ◌⊎◌, ℕ, ◌-◌, ◌^◌, ◌<◌, ◌≤◌, List, [], Some, length, get_or, ⊤}
 use Rattle.cat_disk.specs.declared.disk.DiskDone.{DiskDone}
 use Rattle.cat_disk.specs.declared.disk.DiskDone.TheVariants.{Done, Failed as NotDone}
 use Rattle.cat_disk.specs.Moments.{Moment}
 use Rattle.cat_keeper.specs.Store.{Changes, Rows}
 use Rattle.cat_journal.specs.Parsed.{batch_of}
-use Rattle.cat_journal.specs.Records.{HasRecords, gate_of, rows_of, closed_record, Scans}
-use Rattle.cat_journal.specs.Left.{Now, HasNext, IsShut, IsHeld, IsOpen, IsShort, IsOneOf, LeavesOnly, IsLeft}
+use Rattle.cat_journal.specs.Records.{HasRecords, gate_of, rows_of, Scans}
+use Rattle.cat_journal.specs.Left.{Now, HasNext, IsShut, IsHeld, IsShort, IsOneOf, LeavesOnly, IsLeft}
 use Rattle.cat_journal.specs.Writes.{Seen}
-use Rattle.cat_journal.specs.declared.gate.Put.{Put}
-use Rattle.cat_journal.specs.declared.gate.Put.TheVariants.{Kept, Behind, AtGate}
 use Rattle.cat_journal.specs.declared.load.Known.{Known}
 use Rattle.cat_journal.specs.declared.load.Known.TheVariants.{Nothing, Closed, Doubtful}
 use Rattle.cat_journal.specs.declared.load.Loading.{Loading}

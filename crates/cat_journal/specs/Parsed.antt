@@ -1,5 +1,5 @@
 -- The batch that a tree has in it, and the batch that bytes are the text of.
-use Rattle.std.specs.Prelude.{◌≡◌, ℕ, zero, suc, ◌^◌, pos, negsuc, List, [], ◌∷◌, ◌++◌, Bool, true, false, Option, None, Some, Result, Ok, Err, ◌&&◌, nat_lt, if◌then◌else◌, bytes_eq, option_and_then}
+use Rattle.std.specs.Prelude.{ℕ, zero, suc, ◌^◌, pos, negsuc, List, [], ◌∷◌, ◌++◌, Option, None, Some, Result, Ok, Err, ◌&&◌, nat_lt, if◌then◌else◌, bytes_eq, option_and_then}
 use Rattle.std.specs.FinMap.Entries.{is_sorted}
 use Rattle.std.specs.Option.{ok_or}
 use Rattle.std.specs.Str.{is_utf8}

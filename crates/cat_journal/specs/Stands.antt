@@ -1,5 +1,5 @@
 -- The rows of a journal on its disk, and what each call makes of them whatever crash comes in it.
-use Rattle.std.specs.Prelude.{◌≡◌, ◌⊎◌, ℕ, List, [], ◌∷◌, Some, length, ⊤}
+use Rattle.std.specs.Prelude.{◌≡◌, ◌⊎◌, ℕ, List, [], ◌∷◌, Some, ⊤}
 use Rattle.cat_disk.specs.declared.disk.DiskDone.{DiskDone}
 use Rattle.cat_disk.specs.declared.disk.DiskDone.TheVariants.{Done, Failed as NotDone}
 use Rattle.cat_keeper.specs.Store.{Changes, Rows, applied}
@@ -8,8 +8,8 @@ use Rattle.cat_keeper.specs.declared.keeper.Loaded.TheVariants.{Rows as Given, F
 use Rattle.cat_keeper.specs.declared.keeper.Committed.{Committed}
 use Rattle.cat_keeper.specs.declared.keeper.Committed.TheVariants.{Kept as IsKept, Failed as NotKept, NoMemory as NoSpace}
 use Rattle.cat_journal.specs.Parsed.{batch_of}
-use Rattle.cat_journal.specs.Records.{rows_of, closed_record}
-use Rattle.cat_journal.specs.Left.{Now, IsShut, IsOpen, IsShort, IsOneOf, LeavesOnly, IsLeft}
+use Rattle.cat_journal.specs.Records.{rows_of}
+use Rattle.cat_journal.specs.Left.{Now, IsOpen, IsShort, IsOneOf, LeavesOnly, IsLeft}
 use Rattle.cat_journal.specs.Writes.{Seen}
 use Rattle.cat_journal.specs.Loads.{IsKnown, IsWhole, Fits, IsClosedBy}
 use Rattle.cat_journal.specs.declared.gate.Put.{Put}

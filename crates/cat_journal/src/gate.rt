@@ -1,7 +1,8 @@
 //! The writes of a journal: its beginning, a gate byte 0, and a record behind one.
-ghost use Rattle.std.specs.Prelude.{◌≡◌, ◌≢◌, ◌+◌, ◌-◌, ◌^◌, ◌<◌, ◌≤◌, [], length};
+ghost use Rattle.std.specs.Prelude.{◌≡◌, ◌≢◌, ◌+◌, ◌-◌, ◌^◌, ◌<◌, ◌≤◌, [], ◌∷◌, length};
 ghost use Rattle.cat_io.specs.Causes.{Rose};
 ghost use Rattle.cat_disk.specs.Disk.{StartsWithin};
+ghost use Rattle.cat_journal.specs.Scanning.{Overwrites};
 ghost use Rattle.cat_journal.specs.Writes.{Shuts, KeepsNext, ShutsSafely, Puts, PutsSafely, Begins, BeginsSafely};
 
 use crate::records::BEGINNING;
@@ -36,6 +37,7 @@ pub fn begin<D: Disk>(disk: &mut D) -> DiskDone
 pub fn shut<D: Disk>(disk: &mut D, gate: u64) -> DiskDone
     requires { StartsWithin (D.moments disk.old) (D.content disk.old) gate }
     ensures shuts { Shuts gate (record { moments = D.moments disk.old; content = D.content disk.old }) (record { moments = D.moments disk.new; content = D.content disk.new }) result }
+    ensures zero { Overwrites gate (0 ∷ []) (record { moments = D.moments disk.old; content = D.content disk.old }) (record { moments = D.moments disk.new; content = D.content disk.new }) result }
     ensures next { KeepsNext gate (record { moments = D.moments disk.old; content = D.content disk.old }) (record { moments = D.moments disk.new; content = D.content disk.new }) result }
     ensures safely { ShutsSafely gate (record { moments = D.moments disk.old; content = D.content disk.old }) (record { moments = D.moments disk.new; content = D.content disk.new }) }
     ensures silent { D.moments disk.old ≡ [] → D.moments disk.new ≡ [] }

@@ -1,7 +1,8 @@
 //! A keeper over a journal.
-ghost use Rattle.std.specs.Prelude.{◌≡◌, ◌≢◌, ◌≤◌, ◌+◌, true, false, IfOk, List};
+ghost use Rattle.std.specs.Prelude.{◌≡◌, ◌≢◌, ◌≤◌, ◌+◌, true, false, [], IfOk, List};
 ghost use Rattle.cat_io.specs.Causes.{Rose};
 ghost use Rattle.cat_keeper.specs.Store.{Changes, Rows};
+ghost use Rattle.cat_journal.specs.Scanning.{GivesScan, AreDurable, content_read};
 ghost use Rattle.cat_journal.specs.Stands.{Stands, IsSafeLoaded, IsSafeCommit};
 ghost use Rattle.cat_keeper.specs.Answers.{Loads, Commits};
 ghost use Rattle.cat_journal.specs.Keeps.{told, damage_rows, IsDamage};
@@ -27,7 +28,7 @@ use std::marker::Model;
 /// `journal P` with no text, where P is the position of the damage, so that an opening names it. The file never shrinks.
 #[derive(Drop)]
 pub struct JournalKeeper<D: Disk> {
-    pub(crate) disk: D,
+    disk: D,
     known: Known,
     ready: bool,
     refusals: u64,
@@ -79,6 +80,14 @@ impl<D: Disk> JournalKeeper<D> {
             refusals: 0,
         }
     }
+
+    /// The disk on which the journal is.
+    pub fn disk(&self) -> &D
+        ensures moments { D.moments result.now ≡ self.now.moments }
+        ensures content { D.content result.now ≡ self.now.content }
+    {
+        &self.disk
+    }
 }
 
 impl<D: Disk> Keeper for JournalKeeper<D> {
@@ -92,6 +101,11 @@ impl<D: Disk> Keeper for JournalKeeper<D> {
         ensures cause { result ≡ Loaded.Failed → Rose self.old.faults self.new.faults }
         // The rows of a journal stand, whatever crash comes, and are what is given.
         ensures crash { (base : Rows) (more : List Changes) → Stands base more self.old.known (record { moments = self.old.moments; content = self.old.content }) → IsSafeLoaded base more (record { moments = self.old.moments; content = self.old.content }) (record { moments = self.new.moments; content = self.new.content }) self.new.known result }
+        // Where the disk tells its content, what is given is what a scan of it gives: its rows, or the two that name the place where it is
+        // damaged.
+        ensures scanned { self.old.moments ≢ [] → GivesScan (content_read self.old.known self.old.content) self.new.content result self.new.ready }
+        // After a good load a crash leaves only content of which a scan gives the same rows.
+        ensures durable { self.old.moments ≢ [] → self.new.ready ≡ true → AreDurable self.new.moments self.new.content result }
     {
         let (known, loading) = load_rows(alloc, &mut self.disk, self.known);
         self.known = known;

@@ -16,6 +16,7 @@
 #![tactic(auto)]
 
 pub mod body;
+pub mod call;
 mod commit;
 pub mod gate;
 pub mod history;

@@ -1,7 +1,8 @@
 //! A load of a journal: what was written is made durable, the rows are read, and the gate byte at which they end is mended.
-ghost use Rattle.std.specs.Prelude.{◌≡◌, ◌⊎◌, ◌<◌, ◌≤◌, [], length, List};
+ghost use Rattle.std.specs.Prelude.{◌≡◌, ◌≢◌, ◌⊎◌, ◌<◌, ◌≤◌, [], length, List};
 ghost use Rattle.cat_io.specs.Causes.{Rose};
 ghost use Rattle.cat_keeper.specs.Store.{Changes, Rows};
+ghost use Rattle.cat_journal.specs.Scanning.{IsToRead, IsScanned, content_read};
 ghost use Rattle.cat_journal.specs.Stands.{Stands, SettlesSafely, TakesStill, LoadsStill, IsSafeLoad};
 ghost use Rattle.cat_journal.specs.Loads.{IsSafe, IsPlaced, IsFound, Finds, IsDecided, Settles, TakesUp, TakesUpSafely, Takes, TakesSafely, Reads, LoadsAgain, LoadsFirst};
 
@@ -40,6 +41,7 @@ fn settle<D: Disk>(disk: &mut D, known: Known) -> (Known, DiskDone)
     requires { IsSafe known (record { moments = D.moments disk.old; content = D.content disk.old }) }
     ensures placed { IsPlaced result.0 }
     ensures settles { Settles known (record { moments = D.moments disk.old; content = D.content disk.old }) (record { moments = D.moments disk.new; content = D.content disk.new }) result.0 result.1 }
+    ensures reads { IsToRead known (record { moments = D.moments disk.old; content = D.content disk.old }) (record { moments = D.moments disk.new; content = D.content disk.new }) result.1 }
     ensures crash { (base : Rows) (more : List Changes) → Stands base more known (record { moments = D.moments disk.old; content = D.content disk.old }) → SettlesSafely base more (record { moments = D.moments disk.old; content = D.content disk.old }) (record { moments = D.moments disk.new; content = D.content disk.new }) result.0 result.1 }
     ensures silent { D.moments disk.old ≡ [] → D.moments disk.new ≡ [] }
     ensures later { D.faults disk.old ≤ D.faults disk.new }
@@ -144,6 +146,7 @@ pub fn load_rows<D: Disk>(alloc: Global, disk: &mut D, known: Known) -> (Known, 
     ensures again { LoadsAgain known (record { moments = D.moments disk.old; content = D.content disk.old }) (record { moments = D.moments disk.new; content = D.content disk.new }) result.0 result.1 }
     ensures finds { Finds result.1 result.0 }
     ensures first { LoadsFirst known (record { moments = D.moments disk.old; content = D.content disk.old }) (record { moments = D.moments disk.new; content = D.content disk.new }) result.0 result.1 }
+    ensures scanned { D.moments disk.old ≢ [] → IsScanned (content_read known (D.content disk.old)) (D.content disk.new) result.1 }
     // A crash at any moment leaves the rows that stood.
     ensures crash { (base : Rows) (more : List Changes) → Stands base more known (record { moments = D.moments disk.old; content = D.content disk.old }) → IsSafeLoad base more (record { moments = D.moments disk.old; content = D.content disk.old }) (record { moments = D.moments disk.new; content = D.content disk.new }) result.0 result.1 }
     ensures silent { D.moments disk.old ≡ [] → D.moments disk.new ≡ [] }

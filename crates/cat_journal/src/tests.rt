@@ -40,7 +40,7 @@ fn a_batch_is_kept_in_a_journal(rt: HostRuntime) -> Result<(), Fail> {
     assert_eq!(rt; keeper.commit(alloc, &batch), Committed::Failed);
     let _rows = keeper.load(alloc, &Place::Nowhere);
     assert_eq!(rt; keeper.commit(alloc, &batch), Committed::Kept);
-    let left = keeper.disk.crash(7, true)?;
+    let left = keeper.disk().crash(7, true)?;
     let mut wanted = b"CATJRNL1\x01".to_vec(alloc)?;
     wanted.extend_from_slice(&24u64.to_be_bytes())?;
     wanted.extend_from_slice(br#"[[4,"file:/a","\"{}\""]]"#)?;

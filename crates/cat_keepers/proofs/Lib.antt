@@ -1,0 +1,5 @@
+pub mod SentStatements
+pub mod SentStores
+pub mod SentSqlite
+pub mod SentMaps
+pub mod SentFiles

@@ -1,4 +1,2 @@
-pub mod Deeds
-pub mod Followed
 pub mod Lines
 pub mod Sound

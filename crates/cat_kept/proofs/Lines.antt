@@ -1,5 +1,5 @@
 -- What a line does to a session that is kept.
-use Rattle.std.proofs.Common.{◌≡◌, ◌⊎◌, ℕ, true, inl, inr, List, refl, sym, ap, subst, ◌∙◌, IfOk, OnErr}
+use Rattle.std.proofs.Common.{◌≡◌, ◌⊎◌, ℕ, Bool, true, false, true≢false, if◌then◌else◌, inl, inr, List, refl, sym, ap, subst, ◌∙◌, IfOk, OnErr}
 use Rattle.std.specs.declared.option.Option.{Option}
 use Rattle.std.specs.declared.option.Option.TheVariants.{None, Some}
 use Rattle.std.specs.declared.result.Result.{Result}
@@ -28,8 +28,9 @@ use Rattle.cat_transcript.specs.Session.{after_finish, after_place, after_readin
 use Rattle.cat_transcript.specs.declared.state.RuledSession.{RuledSession}
 use Rattle.cat_transcript.specs.declared.state.SessionState.{SessionState}
 use Rattle.cat_kept.specs.Carried.{CarriesKept}
-use Rattle.cat_kept.specs.Kept.{MayChange, kept_after, kept_reply, refused_keeper}
+use Rattle.cat_kept.specs.Kept.{changes, kept_after, may_change, kept_reply, refused_keeper}
 use Rattle.cat_kept.specs.declared.state.KeptState.{KeptState}
+use Rattle.cat_kept_desk.specs.Followed.{one_more}
 
 -- ---- a line is taken back
 
@@ -43,19 +44,19 @@ module _ (rules : Rules) (s : Settings) where
   finish_back m (Some x) = refl
 
   -- a line that may change the stored rows changes the state alone
-  pub back : (word : Word) (line : Line) → MayChange line → (m : SessionState) → taken_back m (after_reading rules s word line m) ≡ m
+  pub back : (word : Word) (line : Line) → changes line ≡ true → (m : SessionState) → taken_back m (after_reading rules s word line m) ≡ m
   back word (asks.Mutate p x) may m = refl
   back word (asks.ShelfPut name text) may m = refl
   back word (asks.ShelfDrop name) may m = refl
-  back word (asks.Refresh r) may m = absurd may
+  back word (asks.Refresh r) may m = absurd (true≢false (sym may))
   back word (asks.Forget r) may m = refl
-  back word (asks.Clock now) may m = absurd may
-  back word asks.Take may m = absurd may
+  back word (asks.Clock now) may m = absurd (true≢false (sym may))
+  back word asks.Take may m = absurd (true≢false (sym may))
   back word (asks.Finish token) may m = finish_back m (order_numbered token m.orders)
-  back word (asks.Stitch after) may m = absurd may
-  back word (asks.Place ticket) may m = absurd may
+  back word (asks.Stitch after) may m = absurd (true≢false (sym may))
+  back word (asks.Place ticket) may m = absurd (true≢false (sym may))
   back word asks.Settle may m = refl
-  back word (asks.Ask ask) may m = absurd may
+  back word (asks.Ask ask) may m = absurd (true≢false (sym may))
 
   -- ---- a line that may not change the stored rows
 
@@ -67,19 +68,19 @@ module _ (rules : Rules) (s : Settings) where
   place_still rule None m = refl
   place_still rule (Some x) m = put_stitch_still rules s rule x m.state
 
-  pub still : (rule : OrphanRule) (word : Word) (line : Line) → (MayChange line → ⊥) → (m : SessionState) → is_sorted text_cmp m.state.records ≡ true
+  pub still : (rule : OrphanRule) (word : Word) (line : Line) → changes line ≡ false → (m : SessionState) → is_sorted text_cmp m.state.records ≡ true
       → stored rule (after_reading rules s word line m).state ≡ stored rule m.state
-  still rule word (asks.Mutate p x) never m sorted = absurd (never tt)
-  still rule word (asks.ShelfPut name text) never m sorted = absurd (never tt)
-  still rule word (asks.ShelfDrop name) never m sorted = absurd (never tt)
+  still rule word (asks.Mutate p x) never m sorted = absurd (true≢false never)
+  still rule word (asks.ShelfPut name text) never m sorted = absurd (true≢false never)
+  still rule word (asks.ShelfDrop name) never m sorted = absurd (true≢false never)
   still rule word (asks.Refresh r) never m sorted = refresh_still rules s rule r m.state sorted
-  still rule word (asks.Forget r) never m sorted = absurd (never tt)
+  still rule word (asks.Forget r) never m sorted = absurd (true≢false never)
   still rule word (asks.Clock now) never m sorted = refl
   still rule word asks.Take never m sorted = take_still rules s rule m.now m.state sorted
-  still rule word (asks.Finish token) never m sorted = absurd (never tt)
+  still rule word (asks.Finish token) never m sorted = absurd (true≢false never)
   still rule word (asks.Stitch after) never m sorted = stitch_still rule (next_stitch rules m.state after) m
   still rule word (asks.Place ticket) never m sorted = place_still rule (find nat_cmp ticket m.stitches) m
-  still rule word asks.Settle never m sorted = absurd (never tt)
+  still rule word asks.Settle never m sorted = absurd (true≢false never)
   still rule word (asks.Ask ask) never m sorted = refl
 
   -- ---- to a session that isn't kept
@@ -116,7 +117,7 @@ module _ (rules : Rules) (s : Settings) where
 
 module _ (rules : Rules) (rule : OrphanRule) (line : Line) (old new : RuledSession) where
   -- a line that may not change the stored rows leaves them, whether memory lacked or not
-  pub passed : {A E : Type 0} (came : Result A E) (items : A → List ℕ) → IfOk came (λ t. Carries rules line old new (items t)) → OnErr came (new ≡ old) → (MayChange line → ⊥)
+  pub passed : {A E : Type 0} (came : Result A E) (items : A → List ℕ) → IfOk came (λ t. Carries rules line old new (items t)) → OnErr came (new ≡ old) → changes line ≡ false
       → is_sorted text_cmp old.session.state.records ≡ true → stored rule new.session.state ≡ stored rule old.session.state
   passed (Ok t) items ok err never sorted = ap (λ (n : RuledSession). stored rule n.session.state) ok.2 ∙ still rules (program_settings old.orphans) rule ok.0 line never old.session sorted
   passed (Err e) items ok err never sorted = ap (λ (n : RuledSession). stored rule n.session.state) err
@@ -164,7 +165,13 @@ module _ (rules : Rules) (bytes : List ℕ) where
         -- and one that wasn't kept too
         carried_kept : CarriesKept rules line old.ruled new.ruled old.refusals new.refusals text → Answered old new text
         carried_kept (inl h) = carried h.1 h.0
-        carried_kept (inr h) = (unkept, tt, kept_is old.ruled _ h.0 h.2, h.1)
+        carried_kept (inr h) =
+            let may : may_change (line_of bytes) ≡ true = ap may_change reads ∙ h.3 in (
+              unkept,
+              tt,
+              kept_is old.ruled _ h.0 h.2 ∙ ap (λ (b : Bool). if b then record old { refusals = one_more old.refusals } else record old { ruled = ruled_after rules old.ruled plain bytes }) (sym may),
+              h.1 ∙ ap (λ (b : Bool). if b then refused_keeper else ruled_reply rules old.ruled plain bytes) (sym may),
+            )
 
       -- the same of whatever came of it, but for want of memory
       pub follows : {A E : Type 0} (came : Result A E) (items : A → List ℕ) → IfOk came (λ t. CarriesKept rules line old.ruled new.ruled old.refusals new.refusals (items t)) → IfOk came (λ t. Answered old new (items t))

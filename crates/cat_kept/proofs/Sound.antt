@@ -1,5 +1,5 @@
 -- A kept session stays sound.
-use Rattle.std.proofs.Common.{ℕ, List, [], ◌∷◌}
+use Rattle.std.proofs.Common.{ℕ, Bool, true, false, if◌then◌else◌, List, [], ◌∷◌}
 use Rattle.cat_laws.proofs.Stands.{settle_keeps}
 use Rattle.cat_laws.proofs.Steps.{step_kept}
 use Rattle.cat_loop.proofs.Keeping.{Keeps, after_lines-keeps}
@@ -9,10 +9,12 @@ use Rattle.cat_model.specs.Catalogue.{Rules}
 use Rattle.cat_model.specs.Sound.{Sound}
 use Rattle.cat_model.specs.declared.types.Settings.{Settings}
 use Rattle.cat_transcript.proofs.Kept.{after_kept}
-use Rattle.cat_transcript.specs.Program.{program_settings}
+use Rattle.cat_transcript.specs.Program.{program_settings, ruled_after}
 use Rattle.cat_transcript.specs.Session.{session_after}
-use Rattle.cat_kept.specs.Kept.{kept_after}
+use Rattle.cat_commands.specs.Lines.{line_of}
+use Rattle.cat_kept.specs.Kept.{kept_after, may_change}
 use Rattle.cat_kept.specs.declared.state.KeptState.{KeptState}
+use Rattle.cat_kept_desk.specs.Followed.{one_more}
 
 module _ (rules : Rules) where
   abbrev IsSound : KeptState → Type 0
@@ -27,7 +29,11 @@ module _ (rules : Rules) where
   keeps m plain line sound = acted m plain line sound
   keeps m memory line sound = acted m memory line sound
   keeps m (cut n) line sound = acted m (cut n) line sound
-  keeps m unkept line sound = sound
+  keeps m unkept line sound = go (may_change (line_of line))
+    where
+      go : (b : Bool) → IsSound (if b then record m { refusals = one_more m.refusals } else record m { ruled = ruled_after rules m.ruled plain line })
+      go true = sound
+      go false = acted m plain line sound
 
   pub lines_sound : (m : KeptState) (lines : List (List ℕ)) (words : List Word) → IsSound m → IsSound (after_lines (kept_after rules) m lines words)
   lines_sound m lines words sound = after_lines-keeps (kept_after rules) IsSound keeps m sound lines words

@@ -1,9 +1,10 @@
 //! A session, and its store.
-ghost use Rattle.std.specs.Prelude.{◌≡◌, ◌≤◌, IfOk, OnErr};
+ghost use Rattle.std.specs.Prelude.{◌≡◌, ◌≤◌, true, false, IfOk, OnErr};
 ghost use Rattle.cat_commands.specs.Ready.{IsReady};
 ghost use Rattle.cat_keeper.specs.Answers.{Are};
-ghost use Rattle.cat_kept.specs.Kept.{IsFollowed, MayChange, kept_after, kept_reply, refused_keeper};
-ghost use Rattle.cat_kept.specs.Carried.{CarriesKept, DoesLine};
+ghost use Rattle.cat_kept.specs.Carried.{CarriesKept};
+ghost use Rattle.cat_kept.specs.Kept.{changes, kept_after, kept_reply, refused_keeper};
+ghost use Rattle.cat_kept_desk.specs.Followed.{IsFollowed};
 ghost use Rattle.cat_loop.specs.Word.{AnswersLine};
 ghost use Rattle.cat_session.specs.Carried.{Carries};
 ghost use Rattle.cat_tables.specs.Stored.{stored, texts_of};
@@ -31,7 +32,7 @@ pub struct KeptSession<L: Layers, K: Keeper> {
 
 impl<L: Layers, K: Keeper> Model for KeptSession<L, K> {
     ghost use Rattle.std.specs.Prelude.{◌≤◌};
-    ghost use Rattle.cat_kept.specs.Kept.{IsFollowed};
+    ghost use Rattle.cat_kept_desk.specs.Followed.{IsFollowed};
     ghost use Rattle.cat_kept.specs.contracts.state.KeptState.{the_row};
     ghost use Rattle.cat_kept.specs.declared.state.KeptState.{KeptState};
 
@@ -53,7 +54,7 @@ fn refusal(alloc: Global) -> Result<Vec<u8>, AllocError>
 
 // Whether a line may change the stored rows. Due moments, leases, marks and documents aren't stored.
 fn may_change(line: &Line) -> bool
-    ensures { DoesLine line.now result }
+    ensures { result ≡ changes line.now }
 {
     match line {
         Line::Mutate(..)
@@ -74,7 +75,7 @@ fn may_change(line: &Line) -> bool
 // Carries out a line that may not change the stored rows.
 fn pass<L: Layers>(session: &mut Session<L>, line: Line) -> Result<Vec<u8>, AllocError>
     requires ready { IsReady line }
-    requires stays { MayChange line → ⊥ }
+    requires stays { changes line ≡ false }
     ensures ok { IfOk result (λ text. Carries L.rules line session.old session.new text.items) }
     ensures err { OnErr result (session.new ≡ session.old) }
     ensures rule { session.new.orphans ≡ session.old.orphans }
@@ -93,7 +94,7 @@ fn follow<L: Layers, K: Keeper>(
     line: Line,
 ) -> Result<Vec<u8>, AllocError>
     requires ready { IsReady line }
-    requires changes { MayChange line }
+    requires changes { changes line ≡ true }
     requires followed { IsFollowed (K.tables store.old.place store.old.keeper) store.old.orphans store.old.rows session.old.orphans session.old.session.state }
     ensures ok { IfOk result (λ text. CarriesKept L.rules line session.old session.new refusals.old refusals.new text.items) }
     ensures err { OnErr result ((session.new ≡ session.old) × (refusals.new ≡ refusals.old)) }

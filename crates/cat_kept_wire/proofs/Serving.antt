@@ -1,5 +1,5 @@
 -- A message at the moment 0, carried out by a desk whose catalogue is kept.
-use Rattle.std.proofs.Common.{◌≡◌, ◌⊎◌, ℕ, List, true, false, refl, sym, ap, ◌∙◌, subst, inl, inr}
+use Rattle.std.proofs.Common.{◌≡◌, ◌⊎◌, ℕ, Bool, List, true, false, not, if◌then◌else◌, refl, sym, ap, ◌∙◌, subst, inl, inr}
 use Rattle.std.specs.Prelude.{Option, IfSome}
 use Rattle.std.specs.declared.result.Result.{Result}
 use Rattle.std.specs.declared.result.Result.TheVariants.{Ok, Err}
@@ -20,8 +20,8 @@ use Rattle.cat_http.specs.declared.message.Message.{Message}
 use Rattle.cat_http.specs.declared.reply.HttpReply.{HttpReply}
 use Rattle.cat_io.specs.Clock.{CountsReading}
 use Rattle.cat_keeper.specs.declared.keeper.Place.{Place}
-use Rattle.cat_kept.specs.Deeds.{KeptActs, IsUnkept}
-use Rattle.cat_kept.specs.Kept.{one_more}
+use Rattle.cat_kept_desk.specs.Deeds.{KeptActs, IsUnkept}
+use Rattle.cat_kept_desk.specs.Followed.{one_more}
 use Rattle.cat_model.specs.Catalogue.{Rules}
 use Rattle.cat_requests.specs.Answers.{reply_to}
 use Rattle.cat_requests.specs.Requests.{request_of}
@@ -34,7 +34,7 @@ use Rattle.cat_wire.specs.Connection.{Outcome, Transcript}
 use Rattle.cat_wire.specs.Runs.{Answering, Lacking, AnswersItems}
 use Rattle.cat_wire.specs.Worded.{Word, plain, memory, cut, untold, unkept, IsAnswered, AnswersMessage, LacksMemory, HasWords, IsWorded}
 use Rattle.cat_wire.specs.declared.message_loop.ConnEnd.{ConnEnd}
-use Rattle.cat_kept_wire.specs.Wire.{KeptWired, kept_wire_after, kept_wire_reply}
+use Rattle.cat_kept_wire.specs.Wire.{KeptWired, changes, kept_wire_after, kept_wire_reply, may_change, unkept_reply}
 
 -- ---- a catalogue that isn't kept refuses nothing that it would keep
 
@@ -119,26 +119,29 @@ module _ {A C : Type 0} (rules : Rules) (catalogue : A → Ledger) (clock : A �
     pub reply_is : r ≡ reply_to m (Refused Keeper)
 
   module _ (old new : A) where
-    acted : (d : Deed) (k : Kind) (m : Message) (r : HttpReply) → ActsBy acts_kept old new d k m r → (ActsBy acts_plain old new d k m r × Stays old new) ⊎ IsRefused old new m r
+    acted : (d : Deed) (k : Kind) (m : Message) (r : HttpReply) → ActsBy acts_kept old new d k m r → (ActsBy acts_plain old new d k m r × Stays old new) ⊎ (IsRefused old new m r × (changes (Act d k) (catalogue old).state ≡ true))
     acted d k m r h = elim h.1.0.0 [
       | inl a ↦ inl ((h.0, ((record { acts = a.0; reads = h.1.0.1.0 }, h.1.0.1.1), h.1.1.0), h.2, h.3), (h.1.1.1, a.1))
-      | inr u ↦ inr (record {
-        state = u.state;
-        settings = u.settings;
-        counted = u.counted;
-        moment_is = h.1.0.1.1;
-        feed_is = h.1.1.0;
-        place_is = h.1.1.1;
-        reply_is = h.3 ∙ ap (λ x. reply_to m (act_answer k x)) u.answer;
-      })
+      | inr u ↦ inr (
+        record {
+          state = u.0.state;
+          settings = u.0.settings;
+          counted = u.1;
+          moment_is = h.1.0.1.1;
+          feed_is = h.1.1.0;
+          place_is = h.1.1.1;
+          reply_is = h.3 ∙ ap (λ x. reply_to m (act_answer k x)) u.0.answer;
+        },
+        ap not u.0.changes,
+      )
     ]
 
-    carried : (o : Operation) (m : Message) (r : HttpReply) → Carries acts_kept asks_kept tells_kept old new o m r → (Carries acts_plain asks_plain tells_plain old new o m r × Stays old new) ⊎ IsRefused old new m r
+    carried : (o : Operation) (m : Message) (r : HttpReply) → Carries acts_kept asks_kept tells_kept old new o m r → (Carries acts_plain asks_plain tells_plain old new o m r × Stays old new) ⊎ (IsRefused old new m r × (changes o (catalogue old).state ≡ true))
     carried (Act d k) m r h = acted d k m r h
     carried (Ask q) m r h = inl ((h.0, h.1, (h.2.0, h.2.1.0), h.3, h.4), h.2.1.1)
     carried (Tell since) m r h = inl ((h.0, h.1, (h.2.0, λ i. (h.2.1.0 i, h.2.1.1.0 i)), h.3, h.4), h.2.1.1.1)
 
-    requested : (asked : Result Request Refusal) (m : Message) (r : HttpReply) → Answers acts_kept asks_kept tells_kept old new asked m r → (Answers acts_plain asks_plain tells_plain old new asked m r × Stays old new) ⊎ IsRefused old new m r
+    requested : (asked : Result Request Refusal) (m : Message) (r : HttpReply) → Answers acts_kept asks_kept tells_kept old new asked m r → (Answers acts_plain asks_plain tells_plain old new asked m r × Stays old new) ⊎ (IsRefused old new m r × (may_change asked (catalogue old).state ≡ true))
     requested (Ok request) m r h = carried (operation request) m r h
     requested (Err refusal) m r h = inl (h, (ap place h.0, ap refusals h.0))
 
@@ -147,7 +150,7 @@ module _ {A C : Type 0} (rules : Rules) (catalogue : A → Ledger) (clock : A �
       | inl e ↦ (inl e, (ap place e, ap refusals e))
       | inr l ↦ elim l.1.0.0 [
         | inl a ↦ (inr (l.0, ((record { acts = a.0; reads = l.1.0.1.0 }, l.1.0.1.1), l.1.1.0), l.2), (l.1.1.1, a.1))
-        | inr u ↦ (let e : true ≡ false = sym l.2 ∙ ap lacks_memory u.answer in cc)
+        | inr u ↦ (let e : true ≡ false = sym l.2 ∙ ap lacks_memory u.0.answer in cc)
       ]
     ]
 
@@ -171,9 +174,10 @@ module _ {A C : Type 0} (rules : Rules) (catalogue : A → Ledger) (clock : A �
     seen_is : (w : Wired) → (seen new).wired ≡ w → Stays old new → seen new ≡ record (seen old) { wired = w }
     seen_is w e s = λ i. record { wired = e i; place = s.0 i; refusals = s.1 i }
 
-    refused_is : (m : Message) (r : HttpReply) → IsRefused old new m r → seen new ≡ kept_wire_after rules (seen old) unkept m
-    refused_is m r u =
-        λ i. record { wired = record { catalogue = record { settings = u.settings i; state = u.state i }; feed = u.feed_is i }; place = u.place_is i; refusals = u.counted i }
+    refused_is : (m : Message) (r : HttpReply) → IsRefused old new m r → may_change (request_of m) (catalogue old).state ≡ true → seen new ≡ kept_wire_after rules (seen old) unkept m
+    refused_is m r u may =
+        let is : seen new ≡ record (seen old) { refusals = one_more (refusals old) } = λ i. record { wired = record { catalogue = record { settings = u.settings i; state = u.state i }; feed = u.feed_is i }; place = u.place_is i; refusals = u.counted i } in
+        is ∙ ap (λ (b : Bool). if b then record (seen old) { refusals = one_more (refusals old) } else record (seen old) { wired = wire_after rules (seen old).wired plain m }) (sym may)
 
     kept_word : (m : Message) (text : List ℕ) (word : Word) → IsAnswered word → (seen new).wired ≡ wire_after rules (seen old).wired word m → text ≡ wire_reply rules (seen old).wired word m → Stays old new
         → AnswersMessage (kept_wire_after rules) (kept_wire_reply rules) (seen old) m (seen new) text
@@ -193,7 +197,15 @@ module _ {A C : Type 0} (rules : Rules) (catalogue : A → Ledger) (clock : A �
     | inl p ↦
         let a = plain_worded.answered old new m text zero (h.0, p.0, h.2) in
         (a.0, kept_word old new m text a.1.0 a.1.1 a.1.2 a.1.3 p.1)
-    | inr u ↦ (u.moment_is ∙ zero, (unkept, tt, refused_is old new m h.0 u, h.2 ∙ ap reply_bytes u.reply_is))
+    | inr u ↦ (
+      u.0.moment_is ∙ zero,
+      (
+        unkept,
+        tt,
+        refused_is old new m h.0 u.0 u.1,
+        h.2 ∙ (ap reply_bytes u.0.reply_is ∙ ap (λ (b : Bool). if b then unkept_reply m else wire_reply rules (seen old).wired plain m) (sym u.1)),
+      ),
+    )
   ]
 
   lacked_kept : (old new : A) (m : Message) → IsAtZero old → Lacks acts_kept asks_kept tells_kept old new (request_of m) → IsAtZero new × LacksMemory (kept_wire_after rules) (seen old) m (seen new)

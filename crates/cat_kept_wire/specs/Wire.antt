@@ -1,14 +1,23 @@
 -- What a message does to a catalogue that is kept and to its feed at the moment 0, and the bytes of the reply.
-use Rattle.std.specs.Prelude.{ℕ, List}
+use Rattle.std.specs.Prelude.{ℕ, List, Bool, false, not, if◌then◌else◌}
+use Rattle.std.specs.declared.result.Result.{Result}
+use Rattle.std.specs.declared.result.Result.TheVariants.{Ok, Err}
+use Rattle.cat_api.specs.Operations.{Operation, operation}
+use Rattle.cat_api.specs.Operations.Operation.{Act, Ask, Tell}
 use Rattle.cat_api.specs.Wire.{Wired, wire_after, wire_reply}
 use Rattle.cat_http.specs.Reply.{reply_bytes}
 use Rattle.cat_http.specs.declared.message.Message.{Message}
 use Rattle.cat_keeper.specs.declared.keeper.Place.{Place}
-use Rattle.cat_kept.specs.Kept.{one_more}
+use Rattle.cat_kept_desk.specs.Deeds.{leaves_rows}
+use Rattle.cat_kept_desk.specs.Followed.{one_more}
 use Rattle.cat_model.specs.Catalogue.{Rules}
+use Rattle.cat_model.specs.declared.types.State.{State}
 use Rattle.cat_requests.specs.Answers.{reply_to}
+use Rattle.cat_requests.specs.Requests.{request_of}
 use Rattle.cat_requests.specs.declared.answer.Answer.TheVariants.{Refused}
+use Rattle.cat_requests.specs.declared.refusal.Refusal.{Refusal}
 use Rattle.cat_requests.specs.declared.refusal.Refusal.TheVariants.{Keeper}
+use Rattle.cat_requests.specs.declared.request.Request.{Request}
 use Rattle.cat_wire.specs.Worded.{Word, plain, memory, cut, untold, unkept, After, Reply}
 
 -- a catalogue and its feed, the place of the store that keeps the catalogue, and how many messages weren't kept, where the count stays at the
@@ -18,13 +27,26 @@ pub record KeptWired : Type 0 where
   pub place : Place
   pub refusals : ℕ
 
--- the catalogue after a message: one that wasn't kept is counted and leaves it as it was, and any other does what it does to a catalogue that isn't kept
+-- whether an operation may change the stored rows of a state
+abbrev pub changes : Operation → State → Bool
+changes (Act d k) m = not (leaves_rows d m)
+changes (Ask q) m = false
+changes (Tell since) m = false
+
+-- the same of what was read of a message
+abbrev pub may_change : Result Request Refusal → State → Bool
+may_change (Ok request) m = changes (operation request) m
+may_change (Err refusal) m = false
+
+-- the catalogue after a message: one that wasn't kept, which may change the stored rows, is counted and leaves it as it was, and any other does what
+-- it does to a catalogue that isn't kept
 abbrev pub kept_wire_after : Rules → After KeptWired
 kept_wire_after rules m plain message = record m { wired = wire_after rules m.wired plain message }
 kept_wire_after rules m memory message = record m { wired = wire_after rules m.wired memory message }
 kept_wire_after rules m (cut n) message = record m { wired = wire_after rules m.wired (cut n) message }
 kept_wire_after rules m untold message = record m { wired = wire_after rules m.wired untold message }
-kept_wire_after rules m unkept message = record m { refusals = one_more m.refusals }
+kept_wire_after rules m unkept message =
+    if may_change (request_of message) m.wired.catalogue.state then record m { refusals = one_more m.refusals } else record m { wired = wire_after rules m.wired plain message }
 
 -- the bytes of the reply to a message whose change wasn't kept: the status 503
 abbrev pub unkept_reply : Message → List ℕ
@@ -36,4 +58,4 @@ kept_wire_reply rules m plain message = wire_reply rules m.wired plain message
 kept_wire_reply rules m memory message = wire_reply rules m.wired memory message
 kept_wire_reply rules m (cut n) message = wire_reply rules m.wired (cut n) message
 kept_wire_reply rules m untold message = wire_reply rules m.wired untold message
-kept_wire_reply rules m unkept message = unkept_reply message
+kept_wire_reply rules m unkept message = if may_change (request_of message) m.wired.catalogue.state then unkept_reply message else wire_reply rules m.wired plain message

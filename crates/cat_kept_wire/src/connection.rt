@@ -10,7 +10,7 @@ use cat_core::catalogue::{Done, Stitched};
 use cat_hold::layers::Layers;
 use cat_io::{FixedClock, Sink, Source};
 use cat_keeper::keeper::Keeper;
-use cat_kept::KeptDesk;
+use cat_kept_desk::KeptDesk;
 use cat_wire::{ConnEnd, connection};
 use std::alloc::Global;
 

@@ -6,5 +6,8 @@ pub mod Views
 pub mod Offers
 pub mod Parts
 pub mod Same
+pub mod One
+pub mod Both
+pub mod Narrow
 pub mod Opening
 pub mod Version

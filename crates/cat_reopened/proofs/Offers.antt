@@ -17,7 +17,8 @@ use Rattle.cat_model.specs.declared.types.Origin.{Origin}
 use Rattle.cat_model.specs.declared.types.Origin.TheVariants.{Provider, Entity}
 use Rattle.cat_model.specs.declared.types.Row.{Row}
 use Rattle.cat_rows.specs.declared.row.StoredOffer.{StoredOffer}
-use Rattle.cat_tables.specs.Stored.{Emitted, emitted, emitted_as, emitted_by, offer_row, pairs_cmp}
+use Rattle.cat_tables.specs.Stored.{Emitted, emitted, emitted_as, emitted_by, offer_in, pairs_cmp, tree_beside}
+use Rattle.cat_tables.specs.declared.version.Version.{Version}
 use Rattle.cat_reopened.proofs.In.{In, found_in, found_puts, from_flat, in_flat, in_found, none_some, same_some}
 
 pub pairs_total : IsTotalOrder pairs_cmp
@@ -40,14 +41,15 @@ no_more e = absurd (cc)
 -- ---- offers by their stored offers
 
 -- an offer with its arrival number is that of a stored offer
-pub record IsGiven (arrivals others : Emitted) (emitter other r : Ref) (y : Offered) (v : Option Offered) : Type 0 where
+pub record IsGiven (version : Version) (arrivals others : Emitted) (emitter other r : Ref) (y : Offered) (v : Option Offered) : Type 0 where
   pub offer : Offered
   pub is : v ≡ Some offer
   pub key : y.key ≡ offer.key
+  pub beside : tree_beside version y.tree ≡ tree_beside version offer.tree
   pub arrival : unwrap_or (find pairs_cmp (emitter, r) arrivals) 0 ≡ unwrap_or (find pairs_cmp (other, r) others) 0
 
-module _ (arrivals others : Emitted) (emitter other : Ref) where
-  pub same_refs : (xs ys : List (Text × Offered)) → map (offer_row arrivals emitter) xs ≡ map (offer_row others other) ys → keys xs ≡ keys ys
+module _ (version : Version) (arrivals others : Emitted) (emitter other : Ref) where
+  pub same_refs : (xs ys : List (Text × Offered)) → map (offer_in version arrivals emitter) xs ≡ map (offer_in version others other) ys → keys xs ≡ keys ys
   same_refs [] [] e = refl
   same_refs [] (y ∷ ys) e = no_more e
   same_refs (x ∷ xs) [] e = no_more (sym e)
@@ -56,8 +58,8 @@ module _ (arrivals others : Emitted) (emitter other : Ref) where
       let rest : keys xs ≡ keys ys = same_refs xs ys (rest_one e) in
       λ i. reference i ∷ rest i
 
-  pub given_too : (xs ys : List (Text × Offered)) → map (offer_row arrivals emitter) xs ≡ map (offer_row others other) ys
-      → (r : Ref) (x : Offered) → get xs r ≡ Some x → IsGiven arrivals others emitter other r x (get ys r)
+  pub given_too : (xs ys : List (Text × Offered)) → map (offer_in version arrivals emitter) xs ≡ map (offer_in version others other) ys
+      → (r : Ref) (x : Offered) → get xs r ≡ Some x → IsGiven version arrivals others emitter other r x (get ys r)
   given_too [] ys e r x f = absurd (none_some f)
   given_too (z ∷ xs) [] e r x f = no_more (sym e)
   given_too (z ∷ xs) (y ∷ ys) e r x f = go (same_text r z.0) refl f (given_too xs ys (rest_one e) r x)
@@ -65,20 +67,21 @@ module _ (arrivals others : Emitted) (emitter other : Ref) where
       reference : z.0 ≡ y.0
       reference = ap (λ (o : StoredOffer). o.reference) (first_one e)
 
-      go : (b : Bool) → same_text r z.0 ≡ b → cond b (Some z.1) (get xs r) ≡ Some x → (get xs r ≡ Some x → IsGiven arrivals others emitter other r x (get ys r)) → IsGiven arrivals others emitter other r x (get (y ∷ ys) r)
+      go : (b : Bool) → same_text r z.0 ≡ b → cond b (Some z.1) (get xs r) ≡ Some x → (get xs r ≡ Some x → IsGiven version arrivals others emitter other r x (get ys r)) → IsGiven version arrivals others emitter other r x (get (y ∷ ys) r)
       go true t g ih =
           let here : r ≡ z.0 = same_is text_total text_antisymmetric r z.0 t in
           record {
             offer = y.1;
             is = ap (λ b. cond b (Some y.1) (get ys r)) (ap (same_text r) (sym reference) ∙ t);
             key = ap (λ (o : Offered). o.key) (sym (same_some g)) ∙ ap (λ (o : StoredOffer). o.key) (first_one e);
+            beside = ap (λ (o : Offered). tree_beside version o.tree) (sym (same_some g)) ∙ ap (λ (o : StoredOffer). o.tree) (first_one e);
             arrival =
                 ap (λ q. unwrap_or (find pairs_cmp (emitter, q) arrivals) 0) here
                 ∙ (ap (λ (o : StoredOffer). o.arrival) (first_one e)
                 ∙ ap (λ q. unwrap_or (find pairs_cmp (other, q) others) 0) (sym (here ∙ reference)));
           }
       go false t g ih =
-          subst (IsGiven arrivals others emitter other r x) (sym (ap (λ b. cond b (Some y.1) (get ys r)) (ap (same_text r) (sym reference) ∙ t))) (ih g)
+          subst (IsGiven version arrivals others emitter other r x) (sym (ap (λ b. cond b (Some y.1) (get ys r)) (ap (same_text r) (sym reference) ∙ t))) (ih g)
 
 -- ---- offers that are told apart by their references
 

@@ -19,12 +19,16 @@ use Rattle.cat_model.specs.declared.types.Origin.{Origin}
 use Rattle.cat_model.specs.declared.types.Origin.TheVariants.{Provider, Entity}
 use Rattle.cat_model.specs.declared.types.Orphan.{Orphan}
 use Rattle.cat_model.specs.declared.types.OrphanRule.{OrphanRule}
+use Rattle.cat_model.specs.declared.types.OrphanRule.TheVariants.{Keep}
 use Rattle.cat_model.specs.declared.types.Record.{Record}
 use Rattle.cat_model.specs.declared.types.State.{State}
 use Rattle.cat_rows.specs.Text.{row_data}
 use Rattle.cat_rows.specs.declared.row.StoredRow.{StoredRow}
 use Rattle.cat_rows.specs.declared.row.StoredRow.TheVariants.{Settings}
-use Rattle.cat_tables.specs.Stored.{counter_rows, emitted as emitted_rows, given_rows, is_keep, orphan_row, provider_row, put_rows, record_row, rows_of, rule_of, shelf_row, stored}
+use Rattle.cat_tables.specs.First.{first, first_rows_of}
+use Rattle.cat_tables.specs.Stored.{counter_rows, emitted as emitted_rows, given_in, is_keep, orphan_row, provider_row, put_rows, record_in, rows_of, rule_of, shelf_row, stored}
+use Rattle.cat_tables.specs.declared.version.Version.{Version}
+use Rattle.cat_tables.specs.declared.version.Version.TheVariants.{One, Two}
 use Rattle.cat_opening.specs.Start.{IsAtStart}
 use Rattle.cat_reopened.specs.Told.{AreDue, IsTold}
 use Rattle.cat_reopened.proofs.In.{found_map}
@@ -120,37 +124,48 @@ module _ (rules : Rules) where
 
   -- ---- what opens again has the same rows
 
-  module _ (rule : OrphanRule) (m : State) where
-    -- the rows, by whether there are no records and by the rows of these
-    abbrev rows_with : Bool → List StoredRow → List StoredRow
-    rows_with none records =
-        if ((length m.providers == 0 && length m.shelf == 0) && (none && length m.orphans == 0)) && ((m.arrival == 1 && m.number == 1) && is_keep rule) then []
-        else (counter_rows m
-        ++ (Settings (rule_of rule)
-        ∷ (map provider_row m.providers
-        ++ (flat_map given_rows m.rows
+  module _ (m : State) where
+    -- there is nothing to tell of, by whether there are no records
+    abbrev blank_with : OrphanRule → Bool → Bool
+    blank_with rule none = ((length m.providers == 0 && length m.shelf == 0) && (none && length m.orphans == 0)) && ((m.arrival == 1 && m.number == 1) && is_keep rule)
+
+    -- the rows of what the state keeps, by those of its records
+    abbrev kept_with : Version → List StoredRow → List StoredRow
+    kept_with version records =
+        map provider_row m.providers
+        ++ (flat_map (given_in version) m.rows
         ++ (map shelf_row m.shelf
         ++ (records
-        ++ map orphan_row m.orphans))))))
+        ++ map orphan_row m.orphans)))
 
     lengths : (xs : List (Text × Record)) → length (map due xs) ≡ length xs
     lengths [] = refl
     lengths (x ∷ xs) = ap (λ n. suc n) (lengths xs)
 
-    record_rows : (xs : List (Text × Record)) → map (record_row m.holders (emitted_rows m.rows)) (map due xs) ≡ map (record_row m.holders (emitted_rows m.rows)) xs
-    record_rows [] = refl
-    record_rows (x ∷ xs) = ap (λ rows. record_row m.holders (emitted_rows m.rows) x ∷ rows) (record_rows xs)
+    none_due : T (is_sorted text_cmp m.records) → (length (due_records m) == 0) ≡ (length m.records == 0)
+    none_due h = ap (λ n. n == 0) (ap length (in_place m h) ∙ lengths m.records)
 
-    pub same_rows : T (is_sorted text_cmp m.records) → rows_of rule (reopened rules m) ≡ rows_of rule m
-    same_rows h =
-        let none : (length (due_records m) == 0) ≡ (length m.records == 0) = ap (λ n. n == 0) (ap length (in_place m h) ∙ lengths m.records) in
-        let records : map (record_row m.holders (emitted_rows m.rows)) (due_records m) ≡ map (record_row m.holders (emitted_rows m.rows)) m.records =
-        ap (map (record_row m.holders (emitted_rows m.rows))) (in_place m h) ∙ record_rows m.records in
-        λ i. rows_with (none i) (records i)
+    record_rows : (version : Version) (xs : List (Text × Record)) → map (record_in version m.holders (emitted_rows m.rows)) (map due xs) ≡ map (record_in version m.holders (emitted_rows m.rows)) xs
+    record_rows version [] = refl
+    record_rows version (x ∷ xs) = ap (λ rows. record_in version m.holders (emitted_rows m.rows) x ∷ rows) (record_rows version xs)
 
-    pub same_stored : T (is_sorted text_cmp m.records) → stored rule (reopened rules m) ≡ stored rule m
+    records_due : (version : Version) → T (is_sorted text_cmp m.records)
+        → map (record_in version m.holders (emitted_rows m.rows)) (due_records m) ≡ map (record_in version m.holders (emitted_rows m.rows)) m.records
+    records_due version h = ap (map (record_in version m.holders (emitted_rows m.rows))) (in_place m h) ∙ record_rows version m.records
+
+    same_rows : (rule : OrphanRule) → T (is_sorted text_cmp m.records) → rows_of rule (reopened rules m) ≡ rows_of rule m
+    same_rows rule h = λ i. if blank_with rule (none_due h i) then [] else (counter_rows m ++ (Settings (rule_of rule) ∷ kept_with Two (records_due Two h i)))
+
+    pub same_stored : (rule : OrphanRule) → T (is_sorted text_cmp m.records) → stored rule (reopened rules m) ≡ stored rule m
     unfolding stored
-    same_stored h = ap (λ rows. put_rows rows []) (same_rows h)
+    same_stored rule h = ap (λ rows. put_rows rows []) (same_rows rule h)
+
+    same_firsts : T (is_sorted text_cmp m.records) → first_rows_of (reopened rules m) ≡ first_rows_of m
+    same_firsts h = λ i. if blank_with Keep (none_due h i) then [] else (counter_rows m ++ kept_with One (records_due One h i))
+
+    pub same_first : T (is_sorted text_cmp m.records) → first (reopened rules m) ≡ first m
+    unfolding first
+    same_first h = ap (λ rows. put_rows rows []) (same_firsts h)
 
   -- ---- what opens again is told by its rows
 
@@ -172,7 +187,7 @@ module _ (rules : Rules) where
         once = t.offers.once;
       };
       records = λ r. ap is_some (record_at m r) ∙ (still (get m.records r) ∙ t.records r);
-      narrow = λ rule. subst (AllByRecursion (λ row. IsNarrow (row_data row))) (sym (same_rows rule m t.records_in_order)) (t.narrow rule);
+      narrow = λ rule. subst (AllByRecursion (λ row. IsNarrow (row_data row))) (sym (same_rows m rule t.records_in_order)) (t.narrow rule);
       items_in_order = t.items_in_order;
       providers_in_order = t.providers_in_order;
       shelf_in_order = t.shelf_in_order;

@@ -28,7 +28,9 @@ use Rattle.cat_rows.specs.declared.row.StoredCounter.{StoredCounter}
 use Rattle.cat_rows.specs.declared.row.StoredOutput.{StoredOutput}
 use Rattle.cat_rows.specs.declared.row.StoredRow.{StoredRow}
 use Rattle.cat_rows.specs.declared.row.StoredRow.TheVariants.{Counter, Provider, Item, Shelf, Record, Orphan as OrphanRow, Settings, Tree}
-use Rattle.cat_tables.specs.Stored.{all_rows, emitted, offer_row, output_row, pairs_cmp, record_row, rule_of}
+use Rattle.cat_tables.specs.Stored.{all_rows, emitted, offer_in, output_in, output_row, pairs_cmp, record_row, rule_of}
+use Rattle.cat_tables.specs.declared.version.Version.{Version}
+use Rattle.cat_tables.specs.declared.version.Version.TheVariants.{Two}
 use Rattle.cat_reopened.specs.Told.{IsTold}
 use Rattle.cat_reopened.proofs.In.{In, none_some, same_some}
 use Rattle.cat_reopened.proofs.Offers.{IsGiven, emitted_at, given_too}
@@ -68,7 +70,7 @@ tree_is a b x y e = (cc, cc)
 record_is : (r s : Text) (h k : ℕ) (x y : List Issue) (a b : ℕ) (v w : Option StoredOutput) → Record r h x a v ≡ Record s k y b w → (r ≡ s) × (h ≡ k) × (x ≡ y) × (a ≡ b) × (v ≡ w)
 record_is r s h k x y a b v w e = (cc, cc, cc, cc, cc)
 
-one_number : (v w : Option ℕ) (a b : ℕ) → v ≡ Some a → w ≡ Some b → unwrap_or v 0 ≡ unwrap_or w 0 → a ≡ b
+pub one_number : (v w : Option ℕ) (a b : ℕ) → v ≡ Some a → w ≡ Some b → unwrap_or v 0 ≡ unwrap_or w 0 → a ≡ b
 one_number v w a b f g e = ap (λ v. unwrap_or v 0) (sym f) ∙ (e ∙ ap (λ v. unwrap_or v 0) g)
 
 -- ---- what entities offer
@@ -98,16 +100,16 @@ offers_are m e r kept output at is =
     ∙ ap (λ v. option_and_then (λ (y : Output). get y.offers r) v) is
 
 -- an output whose stored form is that of another one
-pub record IsLike (m n : State) (e : Ref) (output : Output) (v : Option Output) : Type 0 where
+pub record IsLike (version : Version) (m n : State) (e : Ref) (output : Output) (v : Option Output) : Type 0 where
   pub other : Output
   pub is : v ≡ Some other
   pub entity : output.entity ≡ other.entity
-  pub offers : map (offer_row (emitted m.rows) e) output.offers ≡ map (offer_row (emitted n.rows) e) other.offers
+  pub offers : map (offer_in version (emitted m.rows) e) output.offers ≡ map (offer_in version (emitted n.rows) e) other.offers
 
-pub is_like : (m n : State) (e : Ref) (output : Output) (v : Option Output)
-    → option_map (output_row (emitted m.rows) e) (Some output) ≡ option_map (output_row (emitted n.rows) e) v → IsLike m n e output v
-is_like m n e output None same = absurd (none_some (sym same))
-is_like m n e output (Some other) same = record {
+pub is_like : (version : Version) (m n : State) (e : Ref) (output : Output) (v : Option Output)
+    → option_map (output_in version (emitted m.rows) e) (Some output) ≡ option_map (output_in version (emitted n.rows) e) v → IsLike version m n e output v
+is_like version m n e output None same = absurd (none_some (sym same))
+is_like version m n e output (Some other) same = record {
   other = other;
   is = refl;
   entity = ap (λ (o : StoredOutput). o.entity) (same_some same);
@@ -237,15 +239,15 @@ module _ (rule other : OrphanRule) (m n : State) (t : IsTold m) (u : IsTold n) (
       by_shown offer key arrival shown = matched a shown.arrival row e offer is f shown.row arrival key
 
       by_given : (kept : Recorded) (other : Output) → get n.records e ≡ Some kept → kept.output ≡ Some other
-          → IsGiven (emitted m.rows) (emitted n.rows) e e row.reference row.offered (get other.offers row.reference) → row_at n.rows a ≡ Some row
+          → IsGiven Two (emitted m.rows) (emitted n.rows) e e row.reference row.offered (get other.offers row.reference) → row_at n.rows a ≡ Some row
       by_given kept other at same g = by_shown g.offer g.key g.arrival (u.offers.shown (Entity e) row.reference g.offer (offers_are n e row.reference kept other at same ∙ g.is))
 
-      by_kept : (output : Output) → get output.offers row.reference ≡ Some row.offered → (kept : Recorded) → get n.records e ≡ Some kept → IsLike m n e output kept.output → row_at n.rows a ≡ Some row
+      by_kept : (output : Output) → get output.offers row.reference ≡ Some row.offered → (kept : Recorded) → get n.records e ≡ Some kept → IsLike Two m n e output kept.output → row_at n.rows a ≡ Some row
       by_kept output found kept at like =
-          by_given kept like.other at like.is (given_too (emitted m.rows) (emitted n.rows) e e output.offers like.other.offers like.offers row.reference row.offered found)
+          by_given kept like.other at like.is (given_too Two (emitted m.rows) (emitted n.rows) e e output.offers like.other.offers like.offers row.reference row.offered found)
 
       by_record : (x : Recorded) (output : Output) → x.output ≡ Some output → get output.offers row.reference ≡ Some row.offered → IsKept e x → row_at n.rows a ≡ Some row
-      by_record x output same found k = by_kept output found k.kept k.at (is_like m n e output k.kept.output (ap (option_map (output_row (emitted m.rows) e)) (sym same) ∙ k.output))
+      by_record x output same found k = by_kept output found k.kept k.at (is_like Two m n e output k.kept.output (ap (option_map (output_row (emitted m.rows) e)) (sym same) ∙ k.output))
 
       by_offer : IsOffered m e row.reference row.offered → row_at n.rows a ≡ Some row
       by_offer offer = by_record offer.kept offer.output offer.is offer.found (record_too e offer.kept offer.at)

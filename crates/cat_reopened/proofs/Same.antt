@@ -27,6 +27,7 @@ use Rattle.cat_rows.specs.declared.row.StoredCounter.TheVariants.{Arrival, Numbe
 use Rattle.cat_rows.specs.declared.row.StoredRow.{StoredRow}
 use Rattle.cat_rows.specs.declared.row.StoredRow.TheVariants.{Counter}
 use Rattle.cat_tables.specs.Stored.{all_rows, emitted, is_blank, is_keep, output_row, put_rows, rows_of, stored, texts_of}
+use Rattle.cat_tables.specs.declared.version.Version.TheVariants.{Two}
 use Rattle.cat_reopened.specs.Told.{IsPlaced, IsTold}
 use Rattle.cat_reopened.proofs.In.{In, alike, all_in, none_some, same_table}
 use Rattle.cat_reopened.proofs.Offers.{same_listed, same_refs}
@@ -113,11 +114,11 @@ module _ (rule other : OrphanRule) (m n : State) (t : IsTold m) (u : IsTold n) (
   outputs_same r x y f g None None p q e = refl
   outputs_same r x y f g None (Some b) p q e = absurd (none_some e)
   outputs_same r x y f g (Some a) w p q e =
-      let like : IsLike m n r a w = is_like m n r a w e in
+      let like : IsLike Two m n r a w = is_like Two m n r a w e in
       let each : (o : Ref) → get a.offers o ≡ get like.other.offers o =
       λ o. sym (offers_are m r o x a f p) ∙ (offered_same (Entity r) o ∙ offers_are n r o y like.other g (q ∙ like.is)) in
       let offers : a.offers ≡ like.other.offers =
-      same_listed a.offers like.other.offers (placed.once r x a f p) (same_refs (emitted m.rows) (emitted n.rows) r r a.offers like.other.offers like.offers) each in
+      same_listed a.offers like.other.offers (placed.once r x a f p) (same_refs Two (emitted m.rows) (emitted n.rows) r r a.offers like.other.offers like.offers) each in
       sym (like.is ∙ (λ j. Some (record { entity = sym like.entity j; offers = sym offers j })))
 
   due_same : (x y : Recorded) → x.number ≡ y.number → x.issues ≡ y.issues → x.output ≡ y.output → due_now y ≡ due_now x
@@ -152,20 +153,20 @@ no_entries [] h = refl
 no_entries (x ∷ xs) h = let e : length (x ∷ xs) ≡ 0 = eqb-true _ _ h in absurd (omega (arith, e))
 
 -- what there is in a state of which a store has nothing to tell
-record IsBlank (rule : OrphanRule) (m : State) : Type 0 where
-  providers : m.providers ≡ []
-  shelf : m.shelf ≡ []
-  records : m.records ≡ []
-  orphans : m.orphans ≡ []
-  arrival : m.arrival ≡ 1
-  number : m.number ≡ 1
-  keeps : rule ≡ Keep
+pub record IsBlank (rule : OrphanRule) (m : State) : Type 0 where
+  pub providers : m.providers ≡ []
+  pub shelf : m.shelf ≡ []
+  pub records : m.records ≡ []
+  pub orphans : m.orphans ≡ []
+  pub arrival : m.arrival ≡ 1
+  pub number : m.number ≡ 1
+  pub keeps : rule ≡ Keep
 
 kept : (rule : OrphanRule) → is_keep rule ≡ true → rule ≡ Keep
 kept Keep h = refl
 kept Delete h = absurd (true≢false (sym h))
 
-blank : (rule : OrphanRule) (m : State) → is_blank rule m ≡ true → IsBlank rule m
+pub blank : (rule : OrphanRule) (m : State) → is_blank rule m ≡ true → IsBlank rule m
 blank rule m h =
     let tables = and_first _ _ h in
     let numbers = and_second ((length m.providers == 0 && length m.shelf == 0) && (length m.records == 0 && length m.orphans == 0)) _ h in
@@ -193,7 +194,7 @@ module _ (rule : OrphanRule) (m : State) (t : IsTold m) (b : IsBlank rule m) whe
   no_holder : (r : Ref) (a : ℕ) → get m.holders r ≡ Some a → ⊥
   no_holder r a f = true≢false (sym (ap is_some f) ∙ (sym (t.records r) ∙ ap (λ records. is_some (get records r)) b.records))
 
-both_blank : (rule other : OrphanRule) (m n : State) → IsTold m → IsTold n → IsBlank rule m → IsBlank other n → AreSame m n
+pub both_blank : (rule other : OrphanRule) (m n : State) → IsTold m → IsTold n → IsBlank rule m → IsBlank other n → AreSame m n
 both_blank rule other m n t u b c = record {
   providers = b.providers ∙ sym c.providers;
   shelf = b.shelf ∙ sym c.shelf;
@@ -207,16 +208,16 @@ both_blank rule other m n t u b c = record {
 
 -- ---- the whole
 
+pub rows_are : (rule : OrphanRule) (m : State) → is_blank rule m ≡ false → rows_of rule m ≡ all_rows rule m
+rows_are rule m e = ap (λ b. if b then [] else all_rows rule m) e
+
+pub no_rows : (rule : OrphanRule) (m : State) → is_blank rule m ≡ true → rows_of rule m ≡ []
+no_rows rule m e = ap (λ b. if b then [] else all_rows rule m) e
+
 module _ (rule other : OrphanRule) (m n : State) (t : IsTold m) (u : IsTold n) (placed : IsPlaced m) (same : texts_of (stored rule m) ≡ texts_of (stored other n)) where
   texts : texts_of (put_rows (rows_of rule m) []) ≡ texts_of (put_rows (rows_of other n) [])
   unfolding stored
   texts = same
-
-  rows_are : (rule : OrphanRule) (m : State) → is_blank rule m ≡ false → rows_of rule m ≡ all_rows rule m
-  rows_are rule m e = ap (λ b. if b then [] else all_rows rule m) e
-
-  no_rows : (rule : OrphanRule) (m : State) → is_blank rule m ≡ true → rows_of rule m ≡ []
-  no_rows rule m e = ap (λ b. if b then [] else all_rows rule m) e
 
   all_narrow : (rule : OrphanRule) (m : State) → IsTold m → is_blank rule m ≡ false → (b : StoredRow) → In b (all_rows rule m) → IsNarrow (row_data b)
   all_narrow rule m t e = all_in (λ row. IsNarrow (row_data row)) (all_rows rule m) (subst (AllByRecursion (λ row. IsNarrow (row_data row))) (rows_are rule m e) (t.narrow rule))

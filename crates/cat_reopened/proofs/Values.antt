@@ -17,16 +17,18 @@ use Rattle.cat_types.specs.declared.issue.Level.TheVariants.{Error, Warning}
 use Rattle.cat_types.specs.declared.work.Output.{Output}
 use Rattle.cat_rows.specs.Names.{counter_text, rule_text}
 use Rattle.cat_rows.specs.Parsed.{counter_in, hex_in, issue_in, rule_in}
-use Rattle.cat_rows.specs.Text.{item_key, issue_data, kept_data, offer_data, row_data, row_key}
+use Rattle.cat_rows.specs.Text.{item_key, issue_data, kept_data, offer_data, record_data, row_data, row_key}
 use Rattle.cat_rows.specs.declared.row.OrphanRule.{OrphanRule as StoredRule}
 use Rattle.cat_rows.specs.declared.row.OrphanRule.TheVariants.{Keep as KeepStored, Delete as DeleteStored}
 use Rattle.cat_rows.specs.declared.row.RowFault.{RowFault}
 use Rattle.cat_rows.specs.declared.row.StoredCounter.{StoredCounter}
 use Rattle.cat_rows.specs.declared.row.StoredCounter.TheVariants.{Arrival, Number}
-use Rattle.cat_rows.specs.declared.row.StoredRow.TheVariants.{Counter, Provider, Item, Shelf, Record, Orphan, Settings, Tree}
+use Rattle.cat_rows.specs.declared.row.StoredRow.TheVariants.{Counter, Provider, Item, ItemOne, Shelf, Orphan, Settings, Tree}
 use Rattle.cat_rows.proofs.Digits.{hex_back}
 use Rattle.cat_rows.proofs.Keys.{after, before}
-use Rattle.cat_tables.specs.Stored.{Emitted, offer_row, output_row}
+use Rattle.cat_tables.specs.Stored.{Emitted, offer_in, output_in}
+use Rattle.cat_tables.specs.declared.version.Version.{Version}
+use Rattle.cat_tables.specs.declared.version.Version.TheVariants.{One, Two}
 
 ok_is : {A : Type 0} {x y : A} → (let r : Result A RowFault = Ok x in r) ≡ Ok y → x ≡ y
 ok_is e = cc
@@ -59,6 +61,9 @@ provider_value p q a b e = cc
 
 pub item_value : (p q r s : Text) (a b : ℕ) (k l : Text) → row_data (Item p r a k) ≡ row_data (Item q s b l) → (a ≡ b) × (k ≡ l)
 item_value p q r s a b k l e = (cc, cc)
+
+pub item_one_value : (p q r s : Text) (a b : ℕ) (k l : Text) (x y : Data) → row_data (ItemOne p r a k x) ≡ row_data (ItemOne q s b l y) → (a ≡ b) × (k ≡ l) × (x ≡ y)
+item_one_value p q r s a b k l x y e = (cc, cc, cc)
 
 pub text_value : (p q x y : Text) → row_data (Shelf p x) ≡ row_data (Shelf q y) → x ≡ y
 text_value p q x y e = cc
@@ -104,40 +109,48 @@ one_issues (x ∷ xs) (y ∷ ys) e =
     λ i. one i ∷ more i
 
 module _ (arrivals others : Emitted) (emitter other : Text) where
-  one_offer : (x y : Text × Offered) → offer_data (offer_row arrivals emitter x) ≡ offer_data (offer_row others other y) → offer_row arrivals emitter x ≡ offer_row others other y
-  one_offer x y e =
-      let arrival : (offer_row arrivals emitter x).arrival ≡ (offer_row others other y).arrival = cc in
+  one_offer : (version : Version) (x y : Text × Offered) → offer_data (offer_in version arrivals emitter x) ≡ offer_data (offer_in version others other y)
+      → offer_in version arrivals emitter x ≡ offer_in version others other y
+  one_offer One x y e =
+      let arrival : (offer_in One arrivals emitter x).arrival ≡ (offer_in One others other y).arrival = cc in
+      let key : x.1.key ≡ y.1.key = cc in
+      let reference : x.0 ≡ y.0 = cc in
+      let tree : x.1.tree ≡ y.1.tree = cc in
+      λ i. record { arrival = arrival i; key = key i; reference = reference i; tree = Some (tree i) }
+  one_offer Two x y e =
+      let arrival : (offer_in Two arrivals emitter x).arrival ≡ (offer_in Two others other y).arrival = cc in
       let key : x.1.key ≡ y.1.key = cc in
       let reference : x.0 ≡ y.0 = cc in
       λ i. record { arrival = arrival i; key = key i; reference = reference i; tree = None }
 
-  one_offers : (xs ys : List (Text × Offered)) → items_of (map offer_data (map (offer_row arrivals emitter) xs)) ≡ items_of (map offer_data (map (offer_row others other) ys))
-      → map (offer_row arrivals emitter) xs ≡ map (offer_row others other) ys
-  one_offers [] [] e = refl
-  one_offers [] (y ∷ ys) e = absurd (cc)
-  one_offers (x ∷ xs) [] e = absurd (cc)
-  one_offers (x ∷ xs) (y ∷ ys) e =
-      let first : offer_data (offer_row arrivals emitter x) ≡ offer_data (offer_row others other y) = cc in
-      let rest : items_of (map offer_data (map (offer_row arrivals emitter) xs)) ≡ items_of (map offer_data (map (offer_row others other) ys)) = cc in
-      let one : offer_row arrivals emitter x ≡ offer_row others other y = one_offer x y first in
-      let more = one_offers xs ys rest in
-      λ i. one i ∷ more i
+  module _ (version : Version) where
+    one_offers : (xs ys : List (Text × Offered)) → items_of (map offer_data (map (offer_in version arrivals emitter) xs)) ≡ items_of (map offer_data (map (offer_in version others other) ys))
+        → map (offer_in version arrivals emitter) xs ≡ map (offer_in version others other) ys
+    one_offers [] [] e = refl
+    one_offers [] (y ∷ ys) e = absurd (cc)
+    one_offers (x ∷ xs) [] e = absurd (cc)
+    one_offers (x ∷ xs) (y ∷ ys) e =
+        let first : offer_data (offer_in version arrivals emitter x) ≡ offer_data (offer_in version others other y) = cc in
+        let rest : items_of (map offer_data (map (offer_in version arrivals emitter) xs)) ≡ items_of (map offer_data (map (offer_in version others other) ys)) = cc in
+        let one : offer_in version arrivals emitter x ≡ offer_in version others other y = one_offer version x y first in
+        let more = one_offers xs ys rest in
+        λ i. one i ∷ more i
 
-  one_output : (x y : Option Output) → kept_data (option_map (output_row arrivals emitter) x) ≡ kept_data (option_map (output_row others other) y)
-      → option_map (output_row arrivals emitter) x ≡ option_map (output_row others other) y
-  one_output None None e = refl
-  one_output None (Some y) e = absurd (cc)
-  one_output (Some x) None e = absurd (cc)
-  one_output (Some x) (Some y) e =
-      let entity : x.entity ≡ y.entity = cc in
-      let same : items_of (map offer_data (map (offer_row arrivals emitter) x.offers)) ≡ items_of (map offer_data (map (offer_row others other) y.offers)) = cc in
-      let offers = one_offers x.offers y.offers same in
-      λ i. Some (record { entity = entity i; offers = offers i })
+    one_output : (x y : Option Output) → kept_data (option_map (output_in version arrivals emitter) x) ≡ kept_data (option_map (output_in version others other) y)
+        → option_map (output_in version arrivals emitter) x ≡ option_map (output_in version others other) y
+    one_output None None e = refl
+    one_output None (Some y) e = absurd (cc)
+    one_output (Some x) None e = absurd (cc)
+    one_output (Some x) (Some y) e =
+        let entity : x.entity ≡ y.entity = cc in
+        let same : items_of (map offer_data (map (offer_in version arrivals emitter) x.offers)) ≡ items_of (map offer_data (map (offer_in version others other) y.offers)) = cc in
+        let offers = one_offers x.offers y.offers same in
+        λ i. Some (record { entity = entity i; offers = offers i })
 
-  pub record_value : (r s : Text) (h k : ℕ) (x y : List Issue) (a b : ℕ) (v w : Option Output)
-      → row_data (Record r h x a (option_map (output_row arrivals emitter) v)) ≡ row_data (Record s k y b (option_map (output_row others other) w))
-      → (h ≡ k) × (x ≡ y) × (a ≡ b) × (option_map (output_row arrivals emitter) v ≡ option_map (output_row others other) w)
-  record_value r s h k x y a b v w e =
-      let issues : items_of (map issue_data x) ≡ items_of (map issue_data y) = cc in
-      let output : kept_data (option_map (output_row arrivals emitter) v) ≡ kept_data (option_map (output_row others other) w) = cc in
-      (cc, one_issues x y issues, cc, one_output v w output)
+    pub record_value : (h k : ℕ) (x y : List Issue) (a b : ℕ) (v w : Option Output)
+        → record_data h x a (option_map (output_in version arrivals emitter) v) ≡ record_data k y b (option_map (output_in version others other) w)
+        → (h ≡ k) × (x ≡ y) × (a ≡ b) × (option_map (output_in version arrivals emitter) v ≡ option_map (output_in version others other) w)
+    record_value h k x y a b v w e =
+        let issues : items_of (map issue_data x) ≡ items_of (map issue_data y) = cc in
+        let output : kept_data (option_map (output_in version arrivals emitter) v) ≡ kept_data (option_map (output_in version others other) w) = cc in
+        (cc, one_issues x y issues, cc, one_output v w output)

@@ -29,7 +29,9 @@ use Rattle.cat_rows.specs.declared.row.StoredCounter.{StoredCounter}
 use Rattle.cat_rows.specs.declared.row.StoredCounter.TheVariants.{Arrival, Number}
 use Rattle.cat_rows.specs.declared.row.StoredRow.{StoredRow}
 use Rattle.cat_rows.specs.declared.row.StoredRow.TheVariants.{Counter, Provider, Item, Shelf, Record, Orphan as OrphanRow, Settings, Tree}
-use Rattle.cat_tables.specs.Stored.{all_rows, counter_rows, emitted, given_rows, item_rows, orphan_row, provider_row, put_rows, record_row, rule_of, shelf_row, text_in, texts_of}
+use Rattle.cat_tables.specs.Stored.{all_rows, counter_rows, emitted, given_in, given_rows, item_rows, kept_in, orphan_row, provider_row, put_rows, record_in, record_row, rule_of, shelf_row, text_in, texts_of}
+use Rattle.cat_tables.specs.declared.version.Version.{Version}
+use Rattle.cat_tables.specs.declared.version.Version.TheVariants.{Two}
 use Rattle.cat_reopened.specs.Told.{IsTold}
 use Rattle.cat_reopened.proofs.In.{In, found_in, from_flat, from_map, in_either, in_flat, in_found, in_left, in_map, in_right, none_some, same_some}
 use Rattle.cat_reopened.proofs.Rows.{AreApart, AreMet, meets, place}
@@ -57,26 +59,74 @@ pub record AreKeyed (m : State) : Type 0 where
   pub names : (p : Text) (x : ProviderInputs) → get m.providers p ≡ Some x → IsTrue (is_name p)
   pub small : m.arrival ≤ 2 ^ 64
 
-module _ (rule : OrphanRule) (m : State) where
-  -- ---- the parts of the list
+-- ---- the parts of what a state keeps, in either version
 
+module _ (version : Version) (m : State) where
   abbrev orphans : List StoredRow
   orphans = map orphan_row m.orphans
 
   abbrev records : List StoredRow
-  records = map (record_row m.holders (emitted m.rows)) m.records ++ orphans
+  records = map (record_in version m.holders (emitted m.rows)) m.records ++ orphans
 
   abbrev shelf : List StoredRow
   shelf = map shelf_row m.shelf ++ records
 
   abbrev given : List StoredRow
-  given = flat_map given_rows m.rows ++ shelf
+  given = flat_map (given_in version) m.rows ++ shelf
 
-  abbrev providers : List StoredRow
-  providers = map provider_row m.providers ++ given
+  pub kept_provider : (p : Text) (x : ProviderInputs) → get m.providers p ≡ Some x → In (Provider p x.serial) (kept_in version m)
+  kept_provider p x f = in_left _ (map provider_row m.providers) given (in_map provider_row (p, x) m.providers (in_found text_total text_antisymmetric p m.providers x f))
 
-  later : (b : StoredRow) → In b providers → In b (all_rows rule m)
-  later b h = in_right b (counter_rows m) (Settings (rule_of rule) ∷ providers) (inr h)
+  from_given : (b : StoredRow) → In b given → In b (kept_in version m)
+  from_given b h = in_right b (map provider_row m.providers) given h
+
+  pub kept_given : (a : ℕ) (row : Row) (b : StoredRow) → row_at m.rows a ≡ Some row → In b (given_in version (a, row)) → In b (kept_in version m)
+  kept_given a row b f h =
+      from_given b (in_left b (flat_map (given_in version) m.rows) shelf (in_flat (given_in version) (a, row) b m.rows (in_found nat_cmp_total nat_cmp-IsAntisymmetric a m.rows row f) h))
+
+  from_shelf : (b : StoredRow) → In b shelf → In b (kept_in version m)
+  from_shelf b h = from_given b (in_right b (flat_map (given_in version) m.rows) shelf h)
+
+  pub kept_text : (name body : Text) → get m.shelf name ≡ Some body → In (Shelf name body) (kept_in version m)
+  kept_text name body f = from_shelf _ (in_left _ (map shelf_row m.shelf) records (in_map shelf_row (name, body) m.shelf (in_found text_total text_antisymmetric name m.shelf body f)))
+
+  from_records : (b : StoredRow) → In b records → In b (kept_in version m)
+  from_records b h = from_shelf b (in_right b (map shelf_row m.shelf) records h)
+
+  pub kept_record : (r : Ref) (x : Recorded) → get m.records r ≡ Some x → In (record_in version m.holders (emitted m.rows) (r, x)) (kept_in version m)
+  kept_record r x f =
+      from_records _ (in_left _ (map (record_in version m.holders (emitted m.rows)) m.records) orphans
+      (in_map (record_in version m.holders (emitted m.rows)) (r, x) m.records (in_found text_total text_antisymmetric r m.records x f)))
+
+  pub kept_orphan : (r : Ref) (x : Orphan) → get m.orphans r ≡ Some x → In (OrphanRow r x.entity x.number) (kept_in version m)
+  kept_orphan r x f =
+      from_records _ (in_right _ (map (record_in version m.holders (emitted m.rows)) m.records) orphans (in_map orphan_row (r, x) m.orphans (in_found text_total text_antisymmetric r m.orphans x f)))
+
+  -- what holds of the rows of each part holds of all
+  pub by_parts : (P : StoredRow → Type 0) → ((b : StoredRow) → In b (map provider_row m.providers) → P b) → ((b : StoredRow) → In b (flat_map (given_in version) m.rows) → P b)
+      → ((b : StoredRow) → In b (map shelf_row m.shelf) → P b) → ((b : StoredRow) → In b (map (record_in version m.holders (emitted m.rows)) m.records) → P b)
+      → ((b : StoredRow) → In b (map orphan_row m.orphans) → P b) → (b : StoredRow) → In b (kept_in version m) → P b
+  by_parts P by_provider by_given by_text by_record by_orphan b h = of_all (in_either b (map provider_row m.providers) given h)
+    where
+      of_records : In b (map (record_in version m.holders (emitted m.rows)) m.records) ⊎ In b orphans → P b
+      of_records (inl g) = by_record b g
+      of_records (inr g) = by_orphan b g
+
+      of_shelf : In b (map shelf_row m.shelf) ⊎ In b records → P b
+      of_shelf (inl g) = by_text b g
+      of_shelf (inr g) = of_records (in_either b (map (record_in version m.holders (emitted m.rows)) m.records) orphans g)
+
+      of_given : In b (flat_map (given_in version) m.rows) ⊎ In b shelf → P b
+      of_given (inl g) = by_given b g
+      of_given (inr g) = of_shelf (in_either b (map shelf_row m.shelf) records g)
+
+      of_all : In b (map provider_row m.providers) ⊎ In b given → P b
+      of_all (inl g) = by_provider b g
+      of_all (inr g) = of_given (in_either b (flat_map (given_in version) m.rows) shelf g)
+
+module _ (rule : OrphanRule) (m : State) where
+  later : (b : StoredRow) → In b (kept_in Two m) → In b (all_rows rule m)
+  later b h = in_right b (counter_rows m) (Settings (rule_of rule) ∷ kept_in Two m) (inr h)
 
   -- ---- what stands in the state has its row
 
@@ -88,41 +138,26 @@ module _ (rule : OrphanRule) (m : State) where
   has_settings = inr (inr (inl refl))
 
   pub has_provider : (p : Text) (x : ProviderInputs) → get m.providers p ≡ Some x → In (Provider p x.serial) (all_rows rule m)
-  has_provider p x f = later _ (in_left _ (map provider_row m.providers) given (in_map provider_row (p, x) m.providers (in_found text_total text_antisymmetric p m.providers x f)))
-
-  from_given : (b : StoredRow) → In b given → In b (all_rows rule m)
-  from_given b h = later b (in_right b (map provider_row m.providers) given h)
-
-  of_row : (a : ℕ) (row : Row) (b : StoredRow) → row_at m.rows a ≡ Some row → In b (given_rows (a, row)) → In b (all_rows rule m)
-  of_row a row b f h = from_given b (in_left b (flat_map given_rows m.rows) shelf (in_flat given_rows (a, row) b m.rows (in_found nat_cmp_total nat_cmp-IsAntisymmetric a m.rows row f) h))
+  has_provider p x f = later _ (kept_provider Two m p x f)
 
   item_in : (a : ℕ) (r key : Text) (o : Origin) (p : Text) → o ≡ OfProvider p → In (Item p r a key) (item_rows a r key o)
   item_in a r key o p e = subst (λ o. In (Item p r a key) (item_rows a r key o)) (sym e) (inl refl)
 
   pub has_item : (a : ℕ) (row : Row) (p : Text) → row_at m.rows a ≡ Some row → row.origin ≡ OfProvider p → In (Item p row.reference a row.offered.key) (all_rows rule m)
   has_item a row p f e =
-      of_row a row _ f (in_left _ (item_rows a row.reference row.offered.key row.origin) (Tree a row.offered.tree ∷ []) (item_in a row.reference row.offered.key row.origin p e))
+      later _ (kept_given Two m a row _ f (in_left _ (item_rows a row.reference row.offered.key row.origin) (Tree a row.offered.tree ∷ []) (item_in a row.reference row.offered.key row.origin p e)))
 
   pub has_tree : (a : ℕ) (row : Row) → row_at m.rows a ≡ Some row → In (Tree a row.offered.tree) (all_rows rule m)
-  has_tree a row f = of_row a row _ f (in_right _ (item_rows a row.reference row.offered.key row.origin) (Tree a row.offered.tree ∷ []) (inl refl))
-
-  from_shelf : (b : StoredRow) → In b shelf → In b (all_rows rule m)
-  from_shelf b h = from_given b (in_right b (flat_map given_rows m.rows) shelf h)
+  has_tree a row f = later _ (kept_given Two m a row _ f (in_right _ (item_rows a row.reference row.offered.key row.origin) (Tree a row.offered.tree ∷ []) (inl refl)))
 
   pub has_text : (name body : Text) → get m.shelf name ≡ Some body → In (Shelf name body) (all_rows rule m)
-  has_text name body f = from_shelf _ (in_left _ (map shelf_row m.shelf) records (in_map shelf_row (name, body) m.shelf (in_found text_total text_antisymmetric name m.shelf body f)))
-
-  from_records : (b : StoredRow) → In b records → In b (all_rows rule m)
-  from_records b h = from_shelf b (in_right b (map shelf_row m.shelf) records h)
+  has_text name body f = later _ (kept_text Two m name body f)
 
   pub has_record : (r : Ref) (x : Recorded) → get m.records r ≡ Some x → In (record_row m.holders (emitted m.rows) (r, x)) (all_rows rule m)
-  has_record r x f =
-      from_records _ (in_left _ (map (record_row m.holders (emitted m.rows)) m.records) orphans
-      (in_map (record_row m.holders (emitted m.rows)) (r, x) m.records (in_found text_total text_antisymmetric r m.records x f)))
+  has_record r x f = later _ (kept_record Two m r x f)
 
   pub has_orphan : (r : Ref) (x : Orphan) → get m.orphans r ≡ Some x → In (OrphanRow r x.entity x.number) (all_rows rule m)
-  has_orphan r x f =
-      from_records _ (in_right _ (map (record_row m.holders (emitted m.rows)) m.records) orphans (in_map orphan_row (r, x) m.orphans (in_found text_total text_antisymmetric r m.orphans x f)))
+  has_orphan r x f = later _ (kept_orphan Two m r x f)
 
   -- ---- each row is that of something that stands in the state
 
@@ -167,39 +202,23 @@ module _ (rule : OrphanRule) (m : State) where
         let f = from_map (record_row m.holders (emitted m.rows)) b m.records h in
         seen b (record_row m.holders (emitted m.rows) f.0) f.2 (f.0.0, f.0.1, found_in text_total text_antisymmetric m.records t.records_in_order f.0.0 f.0.1 f.1, f.2)
 
-    is_orphan : (b : StoredRow) → In b orphans → Is rule m (row_table b) b
+    is_orphan : (b : StoredRow) → In b (map orphan_row m.orphans) → Is rule m (row_table b) b
     is_orphan b h =
         let f = from_map orphan_row b m.orphans h in
         seen b (orphan_row f.0) f.2 (f.0.0, f.0.1, found_in text_total text_antisymmetric m.orphans t.orphans_in_order f.0.0 f.0.1 f.1, f.2)
 
-    is_from_records : (b : StoredRow) → In b (map (record_row m.holders (emitted m.rows)) m.records) ⊎ In b orphans → Is rule m (row_table b) b
-    is_from_records b (inl h) = is_record b h
-    is_from_records b (inr h) = is_orphan b h
-
-    is_from_shelf : (b : StoredRow) → In b (map shelf_row m.shelf) ⊎ In b records → Is rule m (row_table b) b
-    is_from_shelf b (inl h) = is_text b h
-    is_from_shelf b (inr h) = is_from_records b (in_either b (map (record_row m.holders (emitted m.rows)) m.records) orphans h)
-
-    is_from_given : (b : StoredRow) → In b (flat_map given_rows m.rows) ⊎ In b shelf → Is rule m (row_table b) b
-    is_from_given b (inl h) = is_given b h
-    is_from_given b (inr h) = is_from_shelf b (in_either b (map shelf_row m.shelf) records h)
-
-    is_from_providers : (b : StoredRow) → In b (map provider_row m.providers) ⊎ In b given → Is rule m (row_table b) b
-    is_from_providers b (inl h) = is_provider b h
-    is_from_providers b (inr h) = is_from_given b (in_either b (flat_map given_rows m.rows) shelf h)
-
     pub what_is : (b : StoredRow) → In b (all_rows rule m) → Is rule m (row_table b) b
-    what_is b h = go (in_either b (counter_rows m) (Settings (rule_of rule) ∷ providers) h)
+    what_is b h = go (in_either b (counter_rows m) (Settings (rule_of rule) ∷ kept_in Two m) h)
       where
-        go : In b (counter_rows m) ⊎ In b (Settings (rule_of rule) ∷ providers) → Is rule m (row_table b) b
+        go : In b (counter_rows m) ⊎ In b (Settings (rule_of rule) ∷ kept_in Two m) → Is rule m (row_table b) b
         go (inl g) = is_counter b g
         go (inr (inl e)) = seen b (Settings (rule_of rule)) e e
-        go (inr (inr g)) = is_from_providers b (in_either b (map provider_row m.providers) given g)
+        go (inr (inr g)) = by_parts Two m (λ c. Is rule m (row_table c) c) is_provider is_given is_text is_record is_orphan b g
 
     module _ (k : AreKeyed m) where
       -- ---- names and arrival numbers that rows have
 
-      named : (a : ℕ) (row : Row) (p : Text) → row_at m.rows a ≡ Some row → row.origin ≡ OfProvider p → IsTrue (is_name p)
+      pub named : (a : ℕ) (row : Row) (p : Text) → row_at m.rows a ≡ Some row → row.origin ≡ OfProvider p → IsTrue (is_name p)
       named a row p f e = go (get m.providers p) (k.names p) (ap (λ o. offered m o row.reference) (sym e) ∙ t.offers.given a row f)
         where
           go : (v : Option ProviderInputs) → ((x : ProviderInputs) → v ≡ Some x → IsTrue (is_name p)) → option_and_then (λ x. get x.items row.reference) v ≡ Some row.offered → IsTrue (is_name p)
@@ -211,7 +230,7 @@ module _ (rule : OrphanRule) (m : State) where
 
       -- ---- no two rows stand at one place
 
-      one_at : (s : Table) (b c : StoredRow) → Is rule m s b → Is rule m s c → row_key b ≡ row_key c → b ≡ c
+      pub one_at : (s : Table) (b c : StoredRow) → Is rule m s b → Is rule m s c → row_key b ≡ row_key c → b ≡ c
       one_at table.Counters b c h i e =
           let same : h.0 ≡ i.0 = one_counter h.0 i.0 (sym (ap row_key h.1) ∙ (e ∙ ap row_key i.1)) in
           h.1 ∙ (ap (λ c. Counter c (next_of m c)) same ∙ sym i.1)
@@ -250,7 +269,7 @@ module _ (rule : OrphanRule) (m : State) where
 -- ---- a row of one state is that of another at its place, where their values are one
 
 module _ (rule other : OrphanRule) (m n : State) (t : IsTold m) (u : IsTold n) (k : AreKeyed m) (l : AreKeyed n) where
-  one_value : (s : Table) (b c : StoredRow) → Is rule m s b → Is other n s c → row_key b ≡ row_key c → row_data b ≡ row_data c → b ≡ c
+  pub one_value : (s : Table) (b c : StoredRow) → Is rule m s b → Is other n s c → row_key b ≡ row_key c → row_data b ≡ row_data c → b ≡ c
   one_value table.Counters b c h i e d =
       let key : h.0 ≡ i.0 = one_counter h.0 i.0 (sym (ap row_key h.1) ∙ (e ∙ ap row_key i.1)) in
       let value : next_of m h.0 ≡ next_of n i.0 = counter_value h.0 i.0 (next_of m h.0) (next_of n i.0) (sym (ap row_data h.1) ∙ (d ∙ ap row_data i.1)) in
@@ -269,7 +288,7 @@ module _ (rule other : OrphanRule) (m n : State) (t : IsTold m) (u : IsTold n) (
       h.3 ∙ ((λ j. Shelf (key j) (value j)) ∙ sym i.3)
   one_value table.Records b c h i e d =
       let key : h.0 ≡ i.0 = sym (ap row_key h.3) ∙ (e ∙ ap row_key i.3) in
-      let value = record_value (emitted m.rows) (emitted n.rows) h.0 i.0 h.0 i.0 (unwrap_or (get m.holders h.0) 0) (unwrap_or (get n.holders i.0) 0) h.1.issues i.1.issues h.1.number i.1.number
+      let value = record_value (emitted m.rows) (emitted n.rows) h.0 i.0 Two (unwrap_or (get m.holders h.0) 0) (unwrap_or (get n.holders i.0) 0) h.1.issues i.1.issues h.1.number i.1.number
       h.1.output i.1.output (sym (ap row_data h.3) ∙ (d ∙ ap row_data i.3)) in
       h.3 ∙ ((λ j. Record (key j) (value.0 j) (value.1 j) (value.2 j) (value.3 j)) ∙ sym i.3)
   one_value table.Orphans b c h i e d =

@@ -16,6 +16,7 @@ use Rattle.cat_model.specs.declared.types.ProviderInputs.{ProviderInputs}
 use Rattle.cat_model.specs.declared.types.Record.{Record}
 use Rattle.cat_model.specs.declared.types.State.{State}
 use Rattle.cat_rows.specs.Text.{row_data}
+use Rattle.cat_tables.specs.First.{first, first_rows_of}
 use Rattle.cat_tables.specs.Stored.{rows_of, stored, texts_of}
 
 -- each number in the values of the rows of a state has 64 bits
@@ -45,6 +46,14 @@ pub record IsPlaced (m : State) : Type 0 where
 -- the rows of two states, each under its rule for orphans, have the same texts
 abbrev pub HaveSameTexts : OrphanRule → State → OrphanRule → State → Type 0
 HaveSameTexts rule m other n = texts_of (stored rule m) ≡ texts_of (stored other n)
+
+-- each number in the values of the rows of a state in the first version has 64 bits
+abbrev pub AreFirstNarrow : State → Type 0
+AreFirstNarrow m = AllByRecursion (λ row. IsNarrow (row_data row)) (first_rows_of m)
+
+-- the rows of two states in the first version have the same texts
+abbrev pub HaveSameFirstTexts : State → State → Type 0
+HaveSameFirstTexts m n = texts_of (first m) ≡ texts_of (first n)
 
 -- opened again, a state stays as it is
 abbrev pub IsReopened : Rules → State → Type 0

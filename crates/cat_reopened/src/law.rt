@@ -8,11 +8,12 @@ ghost use Rattle.cat_model.specs.declared.types.OrphanRule.{OrphanRule};
 ghost use Rattle.cat_model.specs.declared.types.State.{State};
 ghost use Rattle.cat_opening.specs.Start.{IsAtStart};
 ghost use Rattle.cat_store.specs.Opened.{IsRead};
-ghost use Rattle.cat_tables.specs.Stored.{stored, tables};
+ghost use Rattle.cat_tables.specs.First.{first};
+ghost use Rattle.cat_tables.specs.Stored.{stored, tables, texts_of};
 ghost use Rattle.cat_tree.specs.Data.{Data};
 ghost use Rattle.cat_tree.specs.Proper.{IsNarrow};
 ghost use Rattle.cat_tree.specs.Text.{text_of};
-ghost use Rattle.cat_reopened.specs.Told.{AreDue, AreNarrow, HaveSameTexts, IsPlaced, IsReopened, IsTold};
+ghost use Rattle.cat_reopened.specs.Told.{AreDue, AreFirstNarrow, AreNarrow, HaveSameFirstTexts, HaveSameTexts, IsPlaced, IsReopened, IsTold};
 
 /// The compact text of a tree whose numbers have 64 bits is that of no other such tree.
 pub fn texts_tell_trees()
@@ -27,18 +28,29 @@ pub fn rows_tell_the_state()
     ensures start { (rule other : OrphanRule) (m n : State) → IsTold m → IsTold n → IsPlaced m → AreDue m → AreDue n → IsAtStart m → IsAtStart n → HaveSameTexts rule m other n → m ≡ n }
 {}
 
-/// The state that a state opens again as has the same rows, and opens again as itself. So whatever a store opens as, if it opens again as itself and
-/// its rows are those of the store, it is what the store's state opens again as.
+/// Where the rows of two states in the first version have the same texts, both open again as one state. States that are at their start, with every
+/// record due and free, are one themselves.
+pub fn first_rows_tell_the_state()
+    ensures state { (rules : Rules) (m n : State) → IsTold m → IsTold n → IsPlaced m → AreFirstNarrow n → HaveSameFirstTexts m n → reopened rules m ≡ reopened rules n }
+    ensures start { (m n : State) → IsTold m → IsTold n → IsPlaced m → AreFirstNarrow n → AreDue m → AreDue n → IsAtStart m → IsAtStart n → HaveSameFirstTexts m n → m ≡ n }
+{}
+
+/// The state that a state opens again as has the same rows in both versions, and opens again as itself. So whatever a store opens as, if it opens again
+/// as itself and its rows are those of the store, it is what the store's state opens again as, whichever version the store is of.
 pub fn stores_reopen()
     ensures rows { (rules : Rules) (rule : OrphanRule) (m : State) → IsTold m → stored rule (reopened rules m) ≡ stored rule m }
+    ensures first_rows { (rules : Rules) (m : State) → IsTold m → first (reopened rules m) ≡ first m }
     ensures told { (rules : Rules) (m : State) → IsTold m → IsTold (reopened rules m) }
     ensures opened { (rules : Rules) (m : State) → IsTold m → IsPlaced m → IsReopened rules (reopened rules m) }
     ensures opens { (rules : Rules) (rule other : OrphanRule) (m n : State) → IsTold m → IsTold n → IsPlaced m → IsReopened rules n → HaveSameTexts rule m other n → n ≡ reopened rules m }
     ensures read { (rules : Rules) (rule : OrphanRule) (m n : State) → IsTold m → IsTold n → IsPlaced m → IsReopened rules n → IsRead (tables rule m) n → n ≡ reopened rules m }
+    ensures read_first { (rules : Rules) (m n : State) → IsTold m → IsTold n → IsPlaced m → AreFirstNarrow n → IsReopened rules n → IsRead (texts_of (first m)) n → n ≡ reopened rules m }
 {}
 
-/// Rows tell an empty catalogue, and each sound state whose parts have their forms and whose numbers have 64 bits.
+/// Rows tell an empty catalogue, and each sound state whose parts have their forms and whose numbers have 64 bits. Where they do, and each row has a
+/// place of its own, the numbers of its rows in the first version have 64 bits too.
 pub fn sound_states_are_told()
     ensures begins { IsTold start × IsPlaced start }
     ensures sound { (rules : Rules) (form : FormRules rules) (m : State) → Sound rules m → Formed form m → AreNarrow m → IsTold m }
+    ensures first { (m : State) → IsTold m → IsPlaced m → AreFirstNarrow m }
 {}

@@ -223,6 +223,7 @@ module _ (rules : Rules) (s : Settings) (now : ℕ) where
       note_leads d w by (notes.Stitched r ticket) is =
           (λ i. led rules s (notes.Stitched (is.2 i) (is.3 i)) m) ∙ stitched_leads is.0 w (subst (λ v. By v w) is.1 by)
       note_leads d w by (notes.Settled moment) is = ap (λ k. led rules s (notes.Settled k) m) is.1 ∙ settled_leads w (subst (λ v. By v w) is.0 by) is.2
+      note_leads d w by notes.Unkept is = absurd is
       note_leads d w by (notes.Cut moment events) is = ap (λ k. led rules s (notes.Cut k events) m) is.1 ∙ cut_leads events w (subst (λ v. By v w) is.0 by) is.2
 
     -- ---- where nothing is noted

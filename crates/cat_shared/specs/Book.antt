@@ -1,5 +1,5 @@
 -- What a book does.
-use Rattle.std.specs.Prelude.{◌≡◌, ℕ, List, [], ◌∷◌, ◌++◌}
+use Rattle.std.specs.Prelude.{◌≡◌, ◌⊎◌, ℕ, List, [], ◌∷◌, ◌++◌}
 use Rattle.std.specs.declared.option.Option.{Option}
 use Rattle.std.specs.declared.option.Option.TheVariants.{None, Some}
 use Rattle.cat_core.specs.declared.fault.CoreFault.TheVariants.{NoMemory}
@@ -9,6 +9,7 @@ use Rattle.cat_desk.specs.Deed.{Deed}
 use Rattle.cat_desk.specs.Deed.Deed.{Settle}
 use Rattle.cat_desk.specs.declared.command.Reply.{Reply}
 use Rattle.cat_desk.specs.declared.command.Reply.TheVariants as replies
+use Rattle.cat_kept_desk.specs.Deeds.{IsUnkept}
 use Rattle.cat_model.specs.Catalogue.{Rules}
 use Rattle.cat_shared.specs.Notes.{IsNoted}
 use Rattle.cat_shared.specs.declared.entry.Entry.{Entry}
@@ -24,9 +25,10 @@ abbrev pub lacking : Deed → Reply
 lacking Settle = replies.Cut (record { events = 0; fault = NoMemory })
 lacking _ = replies.Refused NoMemory
 
--- A deed was done to a catalogue at this moment, and what is to be noted of it stands at the end of the journal, under the pass.
+-- A deed was done to a catalogue at this moment, or its change wasn't kept and the catalogue is as before; what is to be noted of it stands at the
+-- end of the journal, under the pass.
 pub record Does (rules : Rules) (pass now : ℕ) (d : Deed) (old new : Ledger) (before after : List Entry) (reply : Reply) : Type 0 where
-  pub acts : Acts rules now d old new reply
+  pub acts : Acts rules now d old new reply ⊎ IsUnkept d old new reply
   pub noted : Option Noted
   pub is : IsNoted now d reply noted
   pub journal : after ≡ before ++ entries pass noted

@@ -1,5 +1,5 @@
 -- What is noted of a deed.
-use Rattle.std.specs.Prelude.{◌≡◌, ℕ, Bool, true, false, ◌||◌, nat_lt, is_some}
+use Rattle.std.specs.Prelude.{◌≡◌, ◌⊎◌, ℕ, ◌+◌, Bool, true, false, ◌||◌, nat_lt, is_some, List, [], ◌∷◌}
 use Rattle.std.specs.declared.option.Option.{Option}
 use Rattle.std.specs.declared.option.Option.TheVariants.{None, Some}
 use Rattle.cat_core.specs.declared.fault.CoreFault.{CoreFault}
@@ -8,6 +8,7 @@ use Rattle.cat_desk.specs.Deed.{Deed}
 use Rattle.cat_desk.specs.Deed.Deed.{Mutate, ShelfPut, ShelfDrop, Refresh, Forget, ForgetNumber, Take, Finish, PutStitch, Settle}
 use Rattle.cat_desk.specs.declared.command.Reply.{Reply}
 use Rattle.cat_desk.specs.declared.command.Reply.TheVariants as replies
+use Rattle.cat_kept_desk.specs.Deeds.{is_lost}
 use Rattle.cat_model.specs.Catalogue.{Ref}
 use Rattle.cat_model.specs.Given.{given}
 use Rattle.cat_model.specs.declared.types.Acted.{Acted}
@@ -18,6 +19,7 @@ use Rattle.cat_model.specs.declared.types.Order.{Order}
 use Rattle.cat_model.specs.declared.types.Placed.{Placed}
 use Rattle.cat_model.specs.declared.types.Placed.TheVariants.{Counted, Late as LateStitch}
 use Rattle.cat_model.specs.declared.types.StitchOrder.{StitchOrder}
+use Rattle.cat_shared.specs.declared.entry.Entry.{Entry}
 use Rattle.cat_shared.specs.declared.entry.Input.{Input}
 use Rattle.cat_shared.specs.declared.entry.Input.TheVariants as inputs
 use Rattle.cat_shared.specs.declared.entry.Noted.{Noted}
@@ -91,7 +93,7 @@ abbrev pub settled_note : ℕ → Reply → Noted
 settled_note now (replies.Cut short) = cut_note now short.events short.fault
 settled_note now _ = notes.Settled now
 
--- A note is of a deed that was answered so at this moment.
+-- A note is of a deed that acted and was answered so at this moment.
 abbrev pub IsNoteOf : ℕ → Deed → Reply → Noted → Type 0
 IsNoteOf now d reply (notes.Acted input said) = (deed_in input ≡ d) × (said ≡ reply)
 IsNoteOf now d reply (notes.Taken moment) = (d ≡ Take) × (moment ≡ now)
@@ -99,8 +101,22 @@ IsNoteOf now d reply (notes.Finished reference token moment) = (order : Order) �
 IsNoteOf now d reply (notes.Stitched reference ticket) = (order : StitchOrder) × (d ≡ PutStitch order) × (reference ≡ order.reference) × (ticket ≡ order.ticket)
 IsNoteOf now d reply (notes.Settled moment) = (d ≡ Settle) × (moment ≡ now) × (is_cut_short reply ≡ false)
 IsNoteOf now d reply (notes.Cut moment events) = (d ≡ Settle) × (moment ≡ now) × (reply ≡ replies.Cut (record { events = events; fault = NoMemory }))
+IsNoteOf now d reply notes.Unkept = ⊥
 
--- What is noted of a deed that was answered so at this moment: just what its reply says is to be noted.
+-- What is noted of a deed that was answered so at this moment: just what its reply says is to be noted, and that it wasn't kept just where its
+-- reply is the keeper's fault.
 abbrev pub IsNoted : ℕ → Deed → Reply → Option Noted → Type 0
-IsNoted now d reply None = is_noted reply ≡ false
-IsNoted now d reply (Some noted) = (is_noted reply ≡ true) × IsNoteOf now d reply noted
+IsNoted now d reply None = (is_noted reply ≡ false) × (is_lost reply ≡ false)
+IsNoted now d reply (Some noted) = ((is_noted reply ≡ true) × IsNoteOf now d reply noted) ⊎ ((is_lost reply ≡ true) × (noted ≡ notes.Unkept))
+
+-- ---- how many weren't kept
+
+-- one, if a note says that a command wasn't kept
+abbrev pub lost_in : Noted → ℕ
+lost_in notes.Unkept = 1
+lost_in _ = 0
+
+-- how many commands of a journal weren't kept
+abbrev pub lost : List Entry → ℕ
+lost [] = 0
+lost (entry ∷ entries) = lost_in entry.noted + lost entries

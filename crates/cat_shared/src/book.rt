@@ -1,11 +1,9 @@
 //! A catalogue with a journal.
-ghost use Rattle.std.specs.Prelude.{◌≡◌, ◌≢◌, ◌⊎◌, ◌++◌, ◌<◌, List, ℕ, Some, [], length};
+ghost use Rattle.std.specs.Prelude.{◌≡◌, ◌≢◌, ◌⊎◌, ◌++◌, ◌+◌, ◌-◌, ◌^◌, ◌≤◌, List, ℕ, Some, [], length, min};
 ghost use Rattle.std.specs.Coded.{Coded-set, coded_option};
-ghost use Rattle.cat_core.specs.Kept.{AreSettings};
 ghost use Rattle.cat_desk.specs.Asks.{AsksOnce};
 ghost use Rattle.cat_desk.specs.Deed.{deed_of};
 ghost use Rattle.cat_fed.specs.Told.{Tells};
-ghost use Rattle.cat_feed.specs.Feed.{begun};
 ghost use Rattle.cat_io.specs.Clock.{CountsReading};
 ghost use Rattle.cat_model.specs.Sound.{Sound};
 ghost use Rattle.cat_model.specs.Step.{start};
@@ -13,32 +11,31 @@ ghost use Rattle.cat_model.specs.contracts.types.State.{the_row};
 ghost use Rattle.cat_model.specs.declared.types.Settings.{Settings as SettingsOf};
 ghost use Rattle.cat_model.specs.declared.types.State.{State};
 ghost use Rattle.cat_shared.specs.Book.{Does, Lacks};
+ghost use Rattle.cat_shared.specs.Notes.{lost};
 ghost use Rattle.cat_shared.specs.Replay.{replay};
 
 use crate::entry::Entry;
-use crate::notes::{is_noted, lacking, note, worked};
-use cat_core::catalogue::{Catalogue, Done, Stitched};
+use crate::notes::{lacking, note, worked};
+use crate::timed::TimedDesk;
+use cat_core::catalogue::{Done, Stitched};
 use cat_desk::command::{Asked, Command, Reply};
-use cat_desk::desk::Desk;
-use cat_desk::timed::Timed;
-use cat_fed::desk::{FeedAnswer, FeedDesk};
-use cat_fed::fed::Fed;
+use cat_fed::desk::FeedAnswer;
 use cat_feed::change::Since;
 use cat_hold::layers::Layers;
-use cat_io::Clock;
-use cat_laws::theorem::sound_is_kept;
-use cat_model::types::Settings;
 use cat_query::ask::Ask;
 use std::alloc::Global;
 use std::marker::{Brand, PhantomData};
 
-/// With what a book began. Each sharing picks both.
+/// With what a book began. Each sharing picks it.
 pub trait Named {
     // The settings of the catalogue.
     ghost settings: { SettingsOf };
 
     // Its state when the book was made.
     ghost opening: { State };
+
+    // How many faults its keeper had counted then.
+    ghost faults: { ℕ };
 }
 
 impl Named for Brand {
@@ -47,63 +44,48 @@ impl Named for Brand {
     ghost settings = { record { interval = 1; lease = 1; input_limit = 0; orphans = Keep } };
 
     ghost opening = { start };
+
+    ghost faults = { 0 };
 }
 
-/// A catalogue with a clock and a feed, and a journal of what was done to it. Its type keeps that the journal leads from the opening
-/// state to the present one, and that what must hold between two events holds.
+/// A catalogue with a clock and a feed, which may be kept in a store, and a journal of what was done to it. Its type keeps that the journal leads from
+/// the opening state to the present one, that what must hold between two events holds, and that as many commands of the journal weren't kept as
+/// faults were counted since the book was made, at most.
 #[derive(Drop)]
-pub struct Book<L: Layers, C: Clock, N: Named> {
-    fed: Fed<L, C>,
+pub struct Book<L: Layers, B: TimedDesk<L>, N: Named> {
+    desk: B,
     journal: Vec<Entry>,
+    layers: PhantomData<L>,
     named: PhantomData<N>,
-    pub ghost settings: { fed.timed.catalogue.settings ≡ N.settings },
-    pub ghost replayed: { replay L.rules N.settings N.opening journal.items ≡ Some fed.timed.catalogue.state } by { Coded-set (coded_option the_row.coded) _ _ },
-    pub ghost sound: { ∥ Sound L.rules fed.timed.catalogue.state ∥₁ },
+    pub ghost settings: { (B.ledger desk).settings ≡ N.settings },
+    pub ghost replayed: { replay L.rules N.settings N.opening journal.items ≡ Some (B.ledger desk).state } by { Coded-set (coded_option the_row.coded) _ _ },
+    pub ghost sound: { ∥ Sound L.rules (B.ledger desk).state ∥₁ },
+    pub ghost counted: { min (N.faults + lost journal.items) (2 ^ 64 - 1) ≤ B.faults desk },
 }
 
-impl<L: Layers, C: Clock, N: Named> Book<L, C, N> {
+impl<L: Layers, B: TimedDesk<L>, N: Named> Book<L, B, N> {
     /// A book of a catalogue, with an empty journal. It takes no memory.
-    pub fn new(alloc: Global, fed: Fed<L, C>) -> Book<L, C, N>
-        requires settings { fed.timed.catalogue.settings ≡ N.settings }
-        requires opening { fed.timed.catalogue.state ≡ N.opening }
-        requires sound { Sound L.rules fed.timed.catalogue.state }
-        ensures fed { result.fed ≡ fed }
+    pub fn new(alloc: Global, desk: B) -> Book<L, B, N>
+        requires settings { (B.ledger desk).settings ≡ N.settings }
+        requires opening { (B.ledger desk).state ≡ N.opening }
+        requires faults { B.faults desk ≡ N.faults }
+        requires sound { Sound L.rules (B.ledger desk).state }
+        ensures desk { result.desk ≡ desk }
         ensures journal { result.journal.items ≡ [] }
     {
         Book {
-            fed,
+            desk,
             journal: Vec::new(alloc),
+            layers: PhantomData,
             named: PhantomData,
         }
     }
 
-    /// A book of a catalogue with nothing in it, under these settings, whose feed has this epoch. It takes no memory.
-    pub fn empty(
-        alloc: Global,
-        layers: L,
-        settings: Settings,
-        clock: C,
-        epoch: u64,
-    ) -> Book<L, C, N>
-        requires bounds { AreSettings settings }
-        requires settings { N.settings ≡ settings }
-        requires opening { N.opening ≡ start }
-        ensures state { result.fed.timed.catalogue.state ≡ start }
-        ensures settings { result.fed.timed.catalogue.settings ≡ settings }
-        ensures clock { result.fed.timed.clock ≡ clock }
-        ensures feed { result.fed.feed ≡ begun epoch }
-        ensures journal { result.journal.items ≡ [] }
-    {
-        sound_is_kept();
-        let catalogue = Catalogue::empty(alloc, layers, settings);
-        Book::new(alloc, Fed::new(alloc, Timed::new(catalogue, clock), epoch))
-    }
-
     /// Lends the catalogue with its clock and its feed.
-    pub fn fed(&self) -> &Fed<L, C>
-        ensures { result.now ≡ self.now.fed }
+    pub fn desk(&self) -> &B
+        ensures { result.now ≡ self.now.desk }
     {
-        &self.fed
+        &self.desk
     }
 
     /// Lends the journal.
@@ -114,13 +96,15 @@ impl<L: Layers, C: Clock, N: Named> Book<L, C, N> {
     }
 
     /// The journal leads from the opening state to the present one, under the settings that the book began with, and what must hold between
-    /// two events holds.
+    /// two events holds. At most as many of its commands weren't kept as faults were counted since the book was made, where that count isn't at the last
+    /// value of a u64; so over a keeper that never fails there is none.
     pub fn leads(&self)
-        ensures settings { self.now.fed.timed.catalogue.settings ≡ N.settings }
-        ensures replayed { replay L.rules N.settings N.opening self.now.journal.items ≡ Some self.now.fed.timed.catalogue.state }
-        ensures sound { ∥ Sound L.rules self.now.fed.timed.catalogue.state ∥₁ }
+        ensures settings { (B.ledger self.now.desk).settings ≡ N.settings }
+        ensures replayed { replay L.rules N.settings N.opening self.now.journal.items ≡ Some (B.ledger self.now.desk).state }
+        ensures sound { ∥ Sound L.rules (B.ledger self.now.desk).state ∥₁ }
+        ensures counted { min (N.faults + lost self.now.journal.items) (2 ^ 64 - 1) ≤ B.faults self.now.desk }
     {
-        let _book = &self.fed;
+        let _book = &self.desk;
     }
 
     /// Does what a command says, under the number of a pass, and answers it. What is to be noted of it stands at the end of the
@@ -131,10 +115,11 @@ impl<L: Layers, C: Clock, N: Named> Book<L, C, N> {
         pass: u64,
         command: Command<Done<'_, L>, Stitched<'_, L>>,
     ) -> Reply
-        ensures acts { (Does L.rules pass (C.moment self.new.fed.timed.clock) (deed_of command.entry) self.old.fed.timed.catalogue self.new.fed.timed.catalogue self.old.journal.items self.new.journal.items result
-            × CountsReading (C.readings self.old.fed.timed.clock) (C.readings self.new.fed.timed.clock) × C.ticks self.old.fed.timed.clock self.new.fed.timed.clock)
-            ⊎ Lacks (deed_of command.entry) self.old.fed self.new.fed self.old.journal.items self.new.journal.items result }
-        ensures feed { self.new.fed.feed ≡ self.old.fed.feed }
+        ensures acts { (Does L.rules pass (B.moment self.new.desk) (deed_of command.entry) (B.ledger self.old.desk) (B.ledger self.new.desk) self.old.journal.items self.new.journal.items result
+            × CountsReading (B.readings self.old.desk) (B.readings self.new.desk) × B.ticks self.old.desk self.new.desk)
+            ⊎ Lacks (deed_of command.entry) self.old.desk self.new.desk self.old.journal.items self.new.journal.items result }
+        ensures feed { B.feed self.new.desk ≡ B.feed self.old.desk }
+        ensures later { B.faults self.old.desk ≤ B.faults self.new.desk }
     {
         let Ok(reference) = worked(alloc, &command) else {
             return lacking(&command);
@@ -142,40 +127,33 @@ impl<L: Layers, C: Clock, N: Named> Book<L, C, N> {
         if self.journal.reserve(1).is_err() {
             return lacking(&command);
         }
-        let (now, reply) = self.fed.act_at(alloc, &command);
-        if !is_noted(&reply) {
-            return reply;
+        let (now, reply) = self.desk.act_at(alloc, &command);
+        if let Some(noted) = note(command, reference, now, &reply) {
+            self.journal.push_reserved(Entry { pass, noted });
         }
-        let noted = note(command, reference, now, &reply);
-        self.journal.push_reserved(Entry { pass, noted });
         reply
     }
 
     /// Answers a question. Only what is answered `Written` changes `out`, by appending the answer.
     pub fn ask(&mut self, alloc: Global, ask: &Ask, out: &mut Vec<u8>) -> Asked
         ensures answer { (text : List ℕ) × (out.new.items ≡ out.old.items ++ text)
-            × (AsksOnce (C.moment self.new.fed.timed.clock) (C.readings self.old.fed.timed.clock) (C.readings self.new.fed.timed.clock) ask.now self.old.fed.timed.catalogue self.new.fed.timed.catalogue result text
-            × C.ticks self.old.fed.timed.clock self.new.fed.timed.clock) }
+            × (AsksOnce (B.moment self.new.desk) (B.readings self.old.desk) (B.readings self.new.desk) ask.now (B.ledger self.old.desk) (B.ledger self.new.desk) result text
+            × B.ticks self.old.desk self.new.desk) }
         ensures same { result ≢ Asked.Written → out.new.items ≡ out.old.items }
-        ensures feed { self.new.fed.feed ≡ self.old.fed.feed }
+        ensures feed { B.feed self.new.desk ≡ B.feed self.old.desk }
         ensures journal { self.new.journal.items ≡ self.old.journal.items }
     {
-        <Fed<L, C> as Desk<Done<'_, L>, Stitched<'_, L>>>::ask(&mut self.fed, alloc, ask, out)
+        self.desk.ask_at(alloc, ask, out)
     }
 
     /// Answers what changed since a place. Only what is answered `Written` changes `out`, by appending the text.
     pub fn changes(&mut self, alloc: Global, since: Option<Since>, out: &mut Vec<u8>) -> FeedAnswer
         ensures answer { (text : List ℕ) × (out.new.items ≡ out.old.items ++ text)
-            × Tells self.old.fed.timed.catalogue.state.documents since self.old.fed.feed self.new.fed.feed result text }
+            × Tells (B.ledger self.old.desk).state.documents since (B.feed self.old.desk) (B.feed self.new.desk) result text }
         ensures same { result ≢ FeedAnswer.Written → out.new.items ≡ out.old.items }
-        ensures timed { self.new.fed.timed ≡ self.old.fed.timed }
+        ensures ledger { B.ledger self.new.desk ≡ B.ledger self.old.desk }
         ensures journal { self.new.journal.items ≡ self.old.journal.items }
     {
-        <Fed<L, C> as FeedDesk<Done<'_, L>, Stitched<'_, L>>>::changes(
-            &mut self.fed,
-            alloc,
-            since,
-            out,
-        )
+        self.desk.changes_since(alloc, since, out)
     }
 }

@@ -50,6 +50,8 @@ pub enum Noted {
         now: u64,
         events: u64,
     },
+    /// The keeper failed: a command's change wasn't kept, and all was as before it.
+    Unkept,
 }
 
 /// What was done under the pass of this number.

@@ -1,10 +1,11 @@
 //! What is noted of a command.
-ghost use Rattle.std.specs.Prelude.{◌≡◌, true, IfOk};
+ghost use Rattle.std.specs.Prelude.{◌≡◌, ◌⊎◌, true, IfOk};
 ghost use Rattle.cat_core.specs.declared.ledger.Ledger.{Ledger};
 ghost use Rattle.cat_desk.specs.Acts.{Acts};
 ghost use Rattle.cat_desk.specs.Deed.{deed_of};
+ghost use Rattle.cat_kept_desk.specs.Deeds.{IsUnkept, is_lost};
 ghost use Rattle.cat_shared.specs.Book.{lacking};
-ghost use Rattle.cat_shared.specs.Notes.{IsNoteOf, is_noted, settled_note, worked};
+ghost use Rattle.cat_shared.specs.Notes.{IsNoteOf, IsNoted, is_noted, settled_note, worked};
 
 use crate::entry::{Input, Noted};
 use cat_core::catalogue::{Done, Stitched};
@@ -15,8 +16,8 @@ use cat_model::types::{Acted, Finished, Placed};
 use cat_ref::reference::Ref;
 use std::alloc::{AllocError, Global};
 
-/// Whether what was answered so is to be noted.
-pub(crate) fn is_noted(reply: &Reply) -> bool
+// Whether what was answered so acted, and is to be noted.
+fn is_noted(reply: &Reply) -> bool
     ensures { result ≡ is_noted reply.now }
 {
     match reply {
@@ -30,6 +31,13 @@ pub(crate) fn is_noted(reply: &Reply) -> bool
         Reply::Cut(cut) => cut.events > 0,
         Reply::Refused(_) => false,
     }
+}
+
+// Whether what was answered so wasn't kept.
+fn is_lost(reply: &Reply) -> bool
+    ensures { result ≡ is_lost reply.now }
+{
+    matches!(reply, Reply::Refused(CoreFault::Keeper))
 }
 
 /// The reply to a command for which there is no room.
@@ -59,8 +67,8 @@ pub(crate) fn worked<L: Layers>(
     }
 }
 
-/// What is noted of a command that was done at this moment, whose order has this reference, if it brings one back.
-pub(crate) fn note<L: Layers>(
+// What is noted of a command that acted at this moment, whose order has this reference, if it brings one back.
+fn acted<L: Layers>(
     command: Command<Done<'_, L>, Stitched<'_, L>>,
     reference: Option<Ref>,
     now: u64,
@@ -93,6 +101,27 @@ pub(crate) fn note<L: Layers>(
             ticket: stitched.order().ticket,
         },
         Command::Settle => settled(now, reply),
+    }
+}
+
+/// What is noted of a command that came at this moment, whose order has this reference, if it brings one back: nothing where it changed nothing, and
+/// that it wasn't kept where it wasn't.
+pub(crate) fn note<L: Layers>(
+    command: Command<Done<'_, L>, Stitched<'_, L>>,
+    reference: Option<Ref>,
+    now: u64,
+    reply: &Reply,
+) -> Option<Noted>
+    requires acts { (old : Ledger) × (new : Ledger) × (Acts L.rules now (deed_of command) old new reply.now ⊎ IsUnkept (deed_of command) old new reply.now) }
+    requires reference { reference ≡ worked (deed_of command) }
+    ensures { IsNoted now (deed_of command.entry) reply.now result }
+{
+    if is_lost(reply) {
+        Some(Noted::Unkept)
+    } else if is_noted(reply) {
+        Some(acted(command, reference, now, reply))
+    } else {
+        None
     }
 }
 

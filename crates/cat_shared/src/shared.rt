@@ -4,6 +4,7 @@ ghost use Rattle.cat_desk.specs.Deed.{deed_of};
 ghost use Rattle.cat_shared.specs.Shared.{SharedActs, SharedAsks, SharedTells};
 
 use crate::book::{Book, Named};
+use crate::timed::TimedDesk;
 use crate::work::at_turn;
 use crate::works::{Acting, Asking, Telling};
 use cat_core::catalogue::{Done, Stitched};
@@ -12,7 +13,6 @@ use cat_desk::desk::Desk;
 use cat_fed::desk::{FeedAnswer, FeedDesk};
 use cat_feed::change::Since;
 use cat_hold::layers::Layers;
-use cat_io::Clock;
 use cat_query::ask::Ask;
 use cat_turns::{Pass, Turns};
 use std::alloc::Global;
@@ -21,20 +21,20 @@ use std::sync::Wait;
 
 /// A share of a book: a pass to its turns, which each command and each question waits for.
 #[derive(Drop)]
-pub struct SharedDesk<'a, L: Layers, C: Clock, N: Named, R: Wait> {
+pub struct SharedDesk<'a, L: Layers, B: TimedDesk<L>, N: Named, R: Wait> {
     rt: &'a R,
-    turns: &'a Turns<Book<L, C, N>>,
-    pass: Pass<Book<L, C, N>>,
+    turns: &'a Turns<Book<L, B, N>>,
+    pass: Pass<Book<L, B, N>>,
     pub ghost own: { pass.turns ≡ turns.now.id },
 }
 
-impl<'a, L: Layers, C: Clock, N: Named, R: Wait> SharedDesk<'a, L, C, N, R> {
+impl<'a, L: Layers, B: TimedDesk<L>, N: Named, R: Wait> SharedDesk<'a, L, B, N, R> {
     /// A share by a pass of these turns. It takes no memory.
     pub fn over(
         rt: &'a R,
-        turns: &'a Turns<Book<L, C, N>>,
-        pass: Pass<Book<L, C, N>>,
-    ) -> SharedDesk<'a, L, C, N, R>
+        turns: &'a Turns<Book<L, B, N>>,
+        pass: Pass<Book<L, B, N>>,
+    ) -> SharedDesk<'a, L, B, N, R>
         requires { pass.turns ≡ turns.now.id }
         ensures { result.pass ≡ pass }
     {
@@ -42,7 +42,7 @@ impl<'a, L: Layers, C: Clock, N: Named, R: Wait> SharedDesk<'a, L, C, N, R> {
     }
 
     /// Gives the pass back. It takes no memory.
-    pub fn into_pass(self) -> Pass<Book<L, C, N>>
+    pub fn into_pass(self) -> Pass<Book<L, B, N>>
         ensures { result ≡ self.entry.pass }
     {
         let SharedDesk {
@@ -61,8 +61,8 @@ impl<'a, L: Layers, C: Clock, N: Named, R: Wait> SharedDesk<'a, L, C, N, R> {
     }
 }
 
-impl<'a, 'b, L: Layers, C: Clock, N: Named, R: Wait> Desk<Done<'b, L>, Stitched<'b, L>>
-    for SharedDesk<'a, L, C, N, R> {
+impl<'a, 'b, L: Layers, B: TimedDesk<L>, N: Named, R: Wait> Desk<Done<'b, L>, Stitched<'b, L>>
+    for SharedDesk<'a, L, B, N, R> {
     ghost order = { λ done. done.order.now };
 
     ghost stitch_order = { λ stitched. stitched.order.now };
@@ -97,8 +97,8 @@ impl<'a, 'b, L: Layers, C: Clock, N: Named, R: Wait> Desk<Done<'b, L>, Stitched<
     }
 }
 
-impl<'a, 'b, L: Layers, C: Clock, N: Named, R: Wait> FeedDesk<Done<'b, L>, Stitched<'b, L>>
-    for SharedDesk<'a, L, C, N, R> {
+impl<'a, 'b, L: Layers, B: TimedDesk<L>, N: Named, R: Wait> FeedDesk<Done<'b, L>, Stitched<'b, L>>
+    for SharedDesk<'a, L, B, N, R> {
     ghost tells = { λ old since new told text. SharedTells L.rules N.settings N.opening since old.pass new.pass told text };
 
     fn changes(&mut self, alloc: Global, since: Option<Since>, out: &mut Vec<u8>) -> FeedAnswer

@@ -3,11 +3,11 @@ ghost use Rattle.std.specs.Prelude.{◌≡◌};
 
 use crate::book::{Book, Named};
 use crate::entry::Entry;
+use crate::timed::TimedDesk;
 use cat_hold::layers::Layers;
-use cat_io::Clock;
 use cat_turns::Tells;
 
-impl<L: Layers, C: Clock, N: Named> Tells for Book<L, C, N> {
+impl<L: Layers, B: TimedDesk<L>, N: Named> Tells for Book<L, B, N> {
     ghost use Rattle.cat_shared.specs.Shared.{pass_of};
 
     type Entry = Entry;

@@ -8,13 +8,13 @@ ghost use Rattle.cat_fed.specs.declared.desk.FeedAnswer.TheVariants as told;
 ghost use Rattle.cat_shared.specs.Book.{Does, Lacks};
 
 use crate::book::{Book, Named};
+use crate::timed::TimedDesk;
 use crate::work::Work;
 use cat_core::catalogue::{Done, Stitched};
 use cat_desk::command::{Asked, Command, Reply};
 use cat_fed::desk::FeedAnswer;
 use cat_feed::change::Since;
 use cat_hold::layers::Layers;
-use cat_io::Clock;
 use cat_query::ask::Ask;
 use std::alloc::Global;
 
@@ -26,13 +26,13 @@ pub(crate) struct Acting<'b, L: Layers> {
     pub command: Command<Done<'b, L>, Stitched<'b, L>>,
 }
 
-impl<'b, L: Layers, C: Clock, N: Named> Work<Book<L, C, N>> for Acting<'b, L> {
+impl<'b, L: Layers, B: TimedDesk<L>, N: Named> Work<Book<L, B, N>> for Acting<'b, L> {
     type Answer = Reply;
 
-    ghost does = { λ work before after reply. Does L.rules work.number (C.moment after.fed.timed.clock) (deed_of work.command) before.fed.timed.catalogue after.fed.timed.catalogue before.journal.items after.journal.items reply
-        ⊎ Lacks (deed_of work.command) before.fed after.fed before.journal.items after.journal.items reply };
+    ghost does = { λ work before after reply. Does L.rules work.number (B.moment after.desk) (deed_of work.command) (B.ledger before.desk) (B.ledger after.desk) before.journal.items after.journal.items reply
+        ⊎ Lacks (deed_of work.command) before.desk after.desk before.journal.items after.journal.items reply };
 
-    fn on(self, book: &mut Book<L, C, N>) -> Reply {
+    fn on(self, book: &mut Book<L, B, N>) -> Reply {
         book.act(self.alloc, self.number, self.command)
     }
 }
@@ -45,14 +45,14 @@ pub(crate) struct Asking<'c> {
     pub out: Vec<u8>,
 }
 
-impl<'c, L: Layers, C: Clock, N: Named> Work<Book<L, C, N>> for Asking<'c> {
+impl<'c, L: Layers, B: TimedDesk<L>, N: Named> Work<Book<L, B, N>> for Asking<'c> {
     type Answer = (Asked, Vec<u8>);
 
     ghost does = { λ work before after answer. (text : List ℕ) × (answer.1.items ≡ work.out.items ++ text)
-        × AsksOnce (C.moment after.fed.timed.clock) (C.readings before.fed.timed.clock) (C.readings after.fed.timed.clock) work.ask.now before.fed.timed.catalogue after.fed.timed.catalogue answer.0 text
+        × AsksOnce (B.moment after.desk) (B.readings before.desk) (B.readings after.desk) work.ask.now (B.ledger before.desk) (B.ledger after.desk) answer.0 text
         × (answer.0 ≢ asked.Written → answer.1.items ≡ work.out.items) × (after.journal.items ≡ before.journal.items) };
 
-    fn on(self, book: &mut Book<L, C, N>) -> (Asked, Vec<u8>) {
+    fn on(self, book: &mut Book<L, B, N>) -> (Asked, Vec<u8>) {
         let mut out = self.out;
         let asked = book.ask(self.alloc, self.ask, &mut out);
         (asked, out)
@@ -67,14 +67,14 @@ pub(crate) struct Telling {
     pub out: Vec<u8>,
 }
 
-impl<L: Layers, C: Clock, N: Named> Work<Book<L, C, N>> for Telling {
+impl<L: Layers, B: TimedDesk<L>, N: Named> Work<Book<L, B, N>> for Telling {
     type Answer = (FeedAnswer, Vec<u8>);
 
     ghost does = { λ work before after answer. (text : List ℕ) × (answer.1.items ≡ work.out.items ++ text)
-        × Tells before.fed.timed.catalogue.state.documents work.since before.fed.feed after.fed.feed answer.0 text
-        × (answer.0 ≢ told.Written → answer.1.items ≡ work.out.items) × (after.journal.items ≡ before.journal.items) × (after.fed.timed ≡ before.fed.timed) };
+        × Tells (B.ledger before.desk).state.documents work.since (B.feed before.desk) (B.feed after.desk) answer.0 text
+        × (answer.0 ≢ told.Written → answer.1.items ≡ work.out.items) × (after.journal.items ≡ before.journal.items) × (B.ledger after.desk ≡ B.ledger before.desk) };
 
-    fn on(self, book: &mut Book<L, C, N>) -> (FeedAnswer, Vec<u8>) {
+    fn on(self, book: &mut Book<L, B, N>) -> (FeedAnswer, Vec<u8>) {
         let mut out = self.out;
         let told = book.changes(self.alloc, self.since, &mut out);
         (told, out)

@@ -8,7 +8,8 @@ use Rattle.cat_keeper.specs.declared.table.Table.{Table}
 use Rattle.cat_keeper.specs.declared.table.Table.TheVariants.{Counters, Providers, Items, Shelf, Records, Orphans, Settings, Trees}
 use Rattle.cat_model.specs.declared.types.OrphanRule.{OrphanRule}
 use Rattle.cat_model.specs.declared.types.State.{State}
-use Rattle.cat_tables.specs.Stored.{stored, texts_of}
+use Rattle.cat_tables.specs.First.{first}
+use Rattle.cat_tables.specs.Stored.{Stored, stored, texts_of}
 
 -- whether stores of the first version have this table
 abbrev pub is_of_first : Table → Bool
@@ -30,6 +31,11 @@ is_row_of_first (Some row) = is_of_first row.0.0
 abbrev pub is_first : Rows → Bool
 is_first rows = is_row_of_first (slice_get rows (length rows - 1))
 
--- rows were read to a state: where they aren't of the first version, they are those of that state, under some rule for orphans
+-- the rows of a state under a rule for orphans, in the first version or else in the second
+abbrev pub rows_in : Bool → OrphanRule → State → Stored
+rows_in true rule m = first m
+rows_in false rule m = stored rule m
+
+-- rows were read to a state: they are those of that state in the version that they are of, in the second under some rule for orphans
 abbrev pub IsRead : Rows → State → Type 0
-IsRead rows m = is_first rows ≡ false → (rule : OrphanRule) × (texts_of (stored rule m) ≡ rows)
+IsRead rows m = (rule : OrphanRule) × (texts_of (rows_in (is_first rows) rule m) ≡ rows)

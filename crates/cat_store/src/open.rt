@@ -6,7 +6,7 @@ ghost use Rattle.cat_io.specs.Causes.{Rose};
 ghost use Rattle.cat_keeper.specs.Answers.{Are, Stays};
 ghost use Rattle.cat_keeper.specs.Store.{applied};
 ghost use Rattle.cat_model.specs.Sound.{AreBegun};
-ghost use Rattle.cat_store.specs.Opened.{IsRead, is_first, is_of_first, is_row_of_first};
+ghost use Rattle.cat_store.specs.Opened.{IsRead, is_first, is_of_first, is_row_of_first, rows_in};
 ghost use Rattle.cat_tables.specs.Stored.{stored, texts_of};
 
 use crate::store::{Store, commit};
@@ -21,6 +21,7 @@ use cat_opening::types::OpenFault as Unread;
 use cat_sound::reopen::opened;
 use cat_table::listing::Copied;
 use cat_tables::batch::batch_to;
+use cat_tables::first::first_rows;
 use cat_tables::stored::{Stored, stored_rows};
 use cat_tree::text::Text;
 use std::alloc::{AllocError, Global};
@@ -109,7 +110,23 @@ fn differing(
     }
 }
 
-// The refusal of a store that isn't of the first version, where its rows aren't those of the state that was read.
+// The rows of a state under a rule for orphans, in the first version or else in the second.
+fn rows_in(
+    alloc: Global,
+    is_first: bool,
+    orphans: OrphanRule,
+    state: &State,
+) -> Result<Stored, AllocError>
+    ensures { IfOk result (λ rows. rows ≡ rows_in is_first orphans state.now) }
+{
+    if is_first {
+        first_rows(alloc, state)
+    } else {
+        stored_rows(alloc, orphans, state)
+    }
+}
+
+// The refusal of a store whose rows aren't those of the state that was read, in the version that they are of.
 fn checked(
     alloc: Global,
     rows: &StoredRows,
@@ -118,10 +135,7 @@ fn checked(
 ) -> Result<(), Unread>
     ensures { IfOk result (λ _. IsRead rows.now state.now) }
 {
-    if is_first(rows) {
-        return Ok(());
-    }
-    let wanted = stored_rows(alloc, orphans, state)?;
+    let wanted = rows_in(alloc, is_first(rows), orphans, state)?;
     match differing(alloc, rows, &wanted)? {
         None => Ok(()),
         Some(fault) => Err(fault),

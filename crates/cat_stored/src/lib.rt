@@ -12,4 +12,4 @@
 
 mod stored;
 
-pub use stored::{Ran, run_stored, run_stored_connection};
+pub use stored::{Ran, run_stored, run_stored_connection, unopened};

@@ -1,6 +1,6 @@
 //! A session, and a connection, over a store.
 
-ghost use Rattle.std.specs.Prelude.{◌≡◌, ◌≤◌, ◌⊎◌, IfOk};
+ghost use Rattle.std.specs.Prelude.{◌≡◌, ◌≢◌, ◌≤◌, ◌⊎◌, IfOk};
 ghost use Rattle.std.specs.Io.KnownBytes.{Appends};
 ghost use Rattle.cat_events.specs.Coming.{IsSteady};
 ghost use Rattle.cat_feed.specs.Feed.{begun};
@@ -19,7 +19,8 @@ use cat_ends::{Status, answer_lines};
 use cat_io::{FixedClock, Sink, Source, write_all};
 use cat_keeper::keeper::{Keeper, Place};
 use cat_keeper::table::Table;
-use cat_kept::{KeptDesk, KeptSession};
+use cat_kept::KeptSession;
+use cat_kept_desk::KeptDesk;
 use cat_kept_wire::{KeptService, kept_connection};
 use cat_layers::layered::Layered;
 use cat_model::types::OrphanRule;
@@ -106,11 +107,12 @@ fn service_of<'a, K: Keeper>(alloc: Global, opened: Opened<K>) -> KeptService<'a
     Service::new(alloc, desk)
 }
 
-// Why a store can't be opened, as a status, with the line that names a row.
-fn unopened<O: Sink>(alloc: Global, fault: &OpenFault, sink: &mut O) -> Status
+/// Why a store can't be opened, as a status, with the line that names a row: 5 where the keeper failed, 6 where a row is named, and 9 for want of
+/// memory. Nothing else is written.
+pub fn unopened<O: Sink>(alloc: Global, fault: &OpenFault, sink: &mut O) -> Status
     ensures refused { result.0 ≡ 6 → IsRefused (O.written sink.old) (O.written sink.new) (O.faults sink.old) (O.faults sink.new) }
     ensures keeper { result.0 ≡ 5 → fault.now ≡ OpenFault.Keeper }
-    ensures memory { result.0 ≡ 9 → sink.new ≡ sink.old }
+    ensures unwritten { result.0 ≢ 6 → sink.new ≡ sink.old }
     ensures later { O.faults sink.old ≤ O.faults sink.new }
     ensures ended { (result.0 ≡ 5) ⊎ ((result.0 ≡ 6) ⊎ (result.0 ≡ 9)) }
 {

@@ -12,21 +12,19 @@ pub put_parts : (xs ys : List StoredRow) (made : Stored) → put_rows (xs ++ ys)
 put_parts [] ys made = refl
 put_parts (x ∷ xs) ys made = put_parts xs ys (put_rows (x ∷ []) made)
 
--- six parts, one after the other
-pub put_six : (a b c d e f : List StoredRow) (m m1 m2 m3 m4 m5 m6 : Stored)
-    → m1 ≡ put_rows a m → m2 ≡ put_rows b m1 → m3 ≡ put_rows c m2 → m4 ≡ put_rows d m3 → m5 ≡ put_rows e m4 → m6 ≡ put_rows f m5
-    → m6 ≡ put_rows (a ++ (b ++ (c ++ (d ++ (e ++ f))))) m
-put_six a b c d e f m m1 m2 m3 m4 m5 m6 e1 e2 e3 e4 e5 e6 =
-    let all : put_rows (a ++ (b ++ (c ++ (d ++ (e ++ f))))) m ≡ put_rows f (put_rows e (put_rows d (put_rows c (put_rows b (put_rows a m))))) =
-    put_parts a (b ++ (c ++ (d ++ (e ++ f)))) m
-    ∙ (put_parts b (c ++ (d ++ (e ++ f))) (put_rows a m)
-    ∙ (put_parts c (d ++ (e ++ f)) (put_rows b (put_rows a m))
-    ∙ (put_parts d (e ++ f) (put_rows c (put_rows b (put_rows a m)))
-    ∙ put_parts e f (put_rows d (put_rows c (put_rows b (put_rows a m))))))) in
-    e6
-    ∙ (ap (put_rows f) e5
-    ∙ (ap (λ n. put_rows f (put_rows e n)) e4
-    ∙ (ap (λ n. put_rows f (put_rows e (put_rows d n))) e3
-    ∙ (ap (λ n. put_rows f (put_rows e (put_rows d (put_rows c n)))) e2
-    ∙ (ap (λ n. put_rows f (put_rows e (put_rows d (put_rows c (put_rows b n))))) e1
-    ∙ sym all)))))
+-- five parts, one after the other
+pub put_five : (a b c d e : List StoredRow) (m m1 m2 m3 m4 m5 : Stored)
+    → m1 ≡ put_rows a m → m2 ≡ put_rows b m1 → m3 ≡ put_rows c m2 → m4 ≡ put_rows d m3 → m5 ≡ put_rows e m4
+    → m5 ≡ put_rows (a ++ (b ++ (c ++ (d ++ e)))) m
+put_five a b c d e m m1 m2 m3 m4 m5 e1 e2 e3 e4 e5 =
+    let all : put_rows (a ++ (b ++ (c ++ (d ++ e)))) m ≡ put_rows e (put_rows d (put_rows c (put_rows b (put_rows a m)))) =
+    put_parts a (b ++ (c ++ (d ++ e))) m
+    ∙ (put_parts b (c ++ (d ++ e)) (put_rows a m)
+    ∙ (put_parts c (d ++ e) (put_rows b (put_rows a m))
+    ∙ put_parts d e (put_rows c (put_rows b (put_rows a m))))) in
+    e5
+    ∙ (ap (put_rows e) e4
+    ∙ (ap (λ n. put_rows e (put_rows d n)) e3
+    ∙ (ap (λ n. put_rows e (put_rows d (put_rows c n))) e2
+    ∙ (ap (λ n. put_rows e (put_rows d (put_rows c (put_rows b n)))) e1
+    ∙ sym all))))

@@ -1,2 +1,3 @@
 pub mod Stored
+pub mod First
 pub mod Walk

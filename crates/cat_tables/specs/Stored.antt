@@ -1,10 +1,12 @@
 -- The rows that are stored of a state.
 use Rattle.std.specs.Prelude.{ℕ, Bool, true, false, ◌&&◌, ◌==◌, List, [], ◌∷◌, ◌++◌, length, map, flat_map, Option, None, Some, option_map, unwrap_or, if◌then◌else◌}
 use Rattle.std.specs.declared.cmp.Ordering.{Ordering}
+use Rattle.cat_tree.specs.Data.{Data}
 use Rattle.cat_tree.specs.Text.{text_of}
 use Rattle.cat_table.specs.Pairs.{pair_cmp}
 use Rattle.cat_table.specs.Table.{Text, find, get, puts, text_cmp}
 use Rattle.cat_types.specs.declared.input.Offered.{Offered}
+use Rattle.cat_types.specs.declared.issue.Issue.{Issue}
 use Rattle.cat_types.specs.declared.work.Output.{Output}
 use Rattle.cat_model.specs.Catalogue.{Holders, Rows as Given}
 use Rattle.cat_model.specs.declared.types.Orphan.{Orphan}
@@ -17,6 +19,8 @@ use Rattle.cat_model.specs.declared.types.Origin.TheVariants.{Provider as OfProv
 use Rattle.cat_model.specs.declared.types.OrphanRule.{OrphanRule}
 use Rattle.cat_model.specs.declared.types.OrphanRule.TheVariants.{Keep, Delete}
 use Rattle.cat_keeper.specs.Store.{RowKey, Rows, row_cmp}
+use Rattle.cat_rows.specs.Formed.{is_any}
+use Rattle.cat_rows.specs.Parsed.{item_row}
 use Rattle.cat_rows.specs.Text.{row_data, row_key, row_table}
 use Rattle.cat_rows.specs.declared.row.OrphanRule.{OrphanRule as StoredRule}
 use Rattle.cat_rows.specs.declared.row.OrphanRule.TheVariants.{Keep as KeepStored, Delete as DeleteStored}
@@ -24,7 +28,9 @@ use Rattle.cat_rows.specs.declared.row.StoredCounter.TheVariants.{Arrival, Numbe
 use Rattle.cat_rows.specs.declared.row.StoredOffer.{StoredOffer}
 use Rattle.cat_rows.specs.declared.row.StoredOutput.{StoredOutput}
 use Rattle.cat_rows.specs.declared.row.StoredRow.{StoredRow}
-use Rattle.cat_rows.specs.declared.row.StoredRow.TheVariants.{Counter, Provider, Item, Shelf, Record, Orphan as OrphanRow, Settings, Tree}
+use Rattle.cat_rows.specs.declared.row.StoredRow.TheVariants.{Counter, Provider, Shelf, Record, RecordOne, Orphan as OrphanRow, Settings, Tree}
+use Rattle.cat_tables.specs.declared.version.Version.{Version}
+use Rattle.cat_tables.specs.declared.version.Version.TheVariants.{One, Two}
 
 -- ---- rows by their keys
 
@@ -88,35 +94,80 @@ counter_rows m = Counter Arrival m.arrival ∷ Counter Number m.number ∷ []
 abbrev pub provider_row : Text × ProviderInputs → StoredRow
 provider_row e = Provider e.0 e.1.serial
 
--- an item, if a provider gives it
-abbrev pub item_rows : ℕ → Text → Text → Origin → List StoredRow
-item_rows arrival reference key (OfProvider name) = Item name reference arrival key ∷ []
-item_rows arrival reference key (Entity emitter) = []
+-- the tree that stands beside an item or an offer: in the first version its own
+abbrev pub tree_beside : Version → Data → Option Data
+tree_beside One tree = Some tree
+tree_beside Two tree = None
+
+-- the row of a tree: in the second version
+abbrev pub tree_rows : Version → ℕ → Data → List StoredRow
+tree_rows One arrival tree = []
+tree_rows Two arrival tree = Tree arrival tree ∷ []
+
+-- an item, if a provider gives it, with the tree beside it
+abbrev pub item_with : ℕ → Text → Text → Option Data → Origin → List StoredRow
+item_with arrival reference key beside (OfProvider name) = item_row name reference arrival key beside ∷ []
+item_with arrival reference key beside (Entity emitter) = []
 
 -- of a row with its arrival number the item, if a provider gives it, and the tree
+abbrev pub given_in : Version → ℕ × Row → List StoredRow
+given_in version e =
+    item_with e.0 e.1.reference e.1.offered.key (tree_beside version e.1.offered.tree) e.1.origin
+    ++ tree_rows version e.0 e.1.offered.tree
+
+-- an item in the second version, if a provider gives it
+abbrev pub item_rows : ℕ → Text → Text → Origin → List StoredRow
+item_rows arrival reference key origin = item_with arrival reference key None origin
+
+-- of a row with its arrival number the item and the tree in the second version
 abbrev pub given_rows : ℕ × Row → List StoredRow
-given_rows e = item_rows e.0 e.1.reference e.1.offered.key e.1.origin ++ Tree e.0 e.1.offered.tree ∷ []
+given_rows e = given_in Two e
 
 -- a text of the shelf
 abbrev pub shelf_row : Text × Text → StoredRow
 shelf_row e = Shelf e.0 e.1
 
--- an offer, by the arrival number of its row, which has its tree
-abbrev pub offer_row : Emitted → Text → Text × Offered → StoredOffer
-offer_row arrivals emitter e = record {
+-- an offer, by the arrival number of its row
+abbrev pub offer_in : Version → Emitted → Text → Text × Offered → StoredOffer
+offer_in version arrivals emitter e = record {
   arrival = unwrap_or (find pairs_cmp (emitter, e.0) arrivals) 0;
   key = e.1.key;
   reference = e.0;
-  tree = None;
+  tree = tree_beside version e.1.tree;
 }
 
 -- what a record gave last
-abbrev pub output_row : Emitted → Text → Output → StoredOutput
-output_row arrivals emitter output = record { entity = output.entity; offers = map (offer_row arrivals emitter) output.offers }
+abbrev pub output_in : Version → Emitted → Text → Output → StoredOutput
+output_in version arrivals emitter output = record { entity = output.entity; offers = map (offer_in version arrivals emitter) output.offers }
+
+-- a record of the first version, which has a form of its own where there are offers
+abbrev pub record_one : Text → ℕ → List Issue → ℕ → Option StoredOutput → StoredRow
+record_one reference holder issues n None = Record reference holder issues n None
+record_one reference holder issues n (Some output) =
+    if is_any output.offers then RecordOne reference holder issues n output
+    else Record reference holder issues n (Some output)
+
+-- a record in the form that a version has for it
+abbrev pub record_as : Version → Text → ℕ → List Issue → ℕ → Option StoredOutput → StoredRow
+record_as One reference holder issues n output = record_one reference holder issues n output
+record_as Two reference holder issues n output = Record reference holder issues n output
 
 -- a record, with the arrival number of the row that holds its reference
+abbrev pub record_in : Version → Holders → Emitted → Text × Recorded → StoredRow
+record_in version holders arrivals e =
+    record_as version e.0 (unwrap_or (get holders e.0) 0) e.1.issues e.1.number (option_map (output_in version arrivals e.0) e.1.output)
+
+-- an offer in the second version
+abbrev pub offer_row : Emitted → Text → Text × Offered → StoredOffer
+offer_row arrivals emitter e = offer_in Two arrivals emitter e
+
+-- what a record gave last, in the second version
+abbrev pub output_row : Emitted → Text → Output → StoredOutput
+output_row arrivals emitter output = output_in Two arrivals emitter output
+
+-- a record in the second version
 abbrev pub record_row : Holders → Emitted → Text × Recorded → StoredRow
-record_row holders arrivals e = Record e.0 (unwrap_or (get holders e.0) 0) e.1.issues e.1.number (option_map (output_row arrivals e.0) e.1.output)
+record_row holders arrivals e = record_in Two holders arrivals e
 
 -- an orphan
 abbrev pub orphan_row : Text × Orphan → StoredRow
@@ -135,16 +186,18 @@ is_blank rule m =
     ((length m.providers == 0 && length m.shelf == 0) && (length m.records == 0 && length m.orphans == 0))
     && ((m.arrival == 1 && m.number == 1) && is_keep rule)
 
+-- a row for each provider, item, shelf text, record and orphan, and in the second version for each tree
+abbrev pub kept_in : Version → State → List StoredRow
+kept_in version m =
+    map provider_row m.providers
+    ++ (flat_map (given_in version) m.rows
+    ++ (map shelf_row m.shelf
+    ++ (map (record_in version m.holders (emitted m.rows)) m.records
+    ++ map orphan_row m.orphans)))
+
 -- the counters, the rule, and a row for each provider, item, tree, shelf text, record and orphan
 abbrev pub all_rows : OrphanRule → State → List StoredRow
-all_rows rule m =
-    counter_rows m
-    ++ (Settings (rule_of rule)
-    ∷ (map provider_row m.providers
-    ++ (flat_map given_rows m.rows
-    ++ (map shelf_row m.shelf
-    ++ (map (record_row m.holders (emitted m.rows)) m.records
-    ++ map orphan_row m.orphans)))))
+all_rows rule m = counter_rows m ++ (Settings (rule_of rule) ∷ kept_in Two m)
 
 -- the rows of a state under a rule: none of a blank one
 abbrev pub rows_of : OrphanRule → State → List StoredRow

@@ -3,7 +3,8 @@ ghost use Rattle.std.specs.Prelude.{◌≡◌, ◌∷◌, [], map, flat_map, IfO
 ghost use Rattle.cat_table.specs.Table.{puts};
 ghost use Rattle.cat_tables.specs.Stored as spec;
 
-use crate::copies::{Emitted, orphan_row, provider_row, record_row, rule_of, shelf_row};
+use crate::copies::{Emitted, item_row, orphan_row, provider_row, record_row, rule_of, shelf_row};
+use crate::version::Version;
 use cat_keeper::table::Table;
 use cat_model::types::{Origin, Orphan, OrphanRule, ProviderInputs, Record, Row, State};
 use cat_ref::reference::Ref;
@@ -12,6 +13,7 @@ use cat_rows::write::{row_key, row_table};
 use cat_table::listing::Copied;
 use cat_table::map::Map;
 use cat_tree::text::Text;
+use cat_types::node::Node;
 use cat_types::table::Table as Entries;
 use std::alloc::{AllocError, Global};
 
@@ -41,40 +43,70 @@ fn put_providers(
 }
 
 // Puts the item of a row, if a provider gives it.
-fn put_item(alloc: Global, made: &mut Stored, arrival: u64, row: &Row) -> Result<(), AllocError>
-    ensures { OnOk result (made.new ≡ spec.put_rows (spec.item_rows arrival row.now.reference row.now.offered.key row.now.origin) made.old) }
+fn put_item(
+    alloc: Global,
+    made: &mut Stored,
+    version: Version,
+    arrival: u64,
+    row: &Row,
+) -> Result<(), AllocError>
+    ensures { OnOk result (made.new ≡ spec.put_rows (spec.item_with arrival row.now.reference row.now.offered.key (spec.tree_beside version row.now.offered.tree) row.now.origin) made.old) }
 {
     match &row.origin {
         Origin::Provider(name) => {
-            let item = StoredRow::Item {
-                provider: name.duplicate(alloc)?,
-                reference: row.reference.duplicate(alloc)?,
-                arrival,
-                key: row.offered.key.duplicate(alloc)?,
-            };
+            let item = item_row(alloc, version, name, &row.reference, arrival, &row.offered)?;
             put_row(alloc, made, item)
         }
         Origin::Entity(_) => Ok(()),
     }
 }
 
+// Puts the row of a tree, if the version has one.
+fn put_tree(
+    alloc: Global,
+    made: &mut Stored,
+    version: Version,
+    arrival: u64,
+    tree: &Node,
+) -> Result<(), AllocError>
+    ensures { OnOk result (made.new ≡ spec.put_rows (spec.tree_rows version arrival tree.now) made.old) }
+{
+    match version {
+        Version::One => Ok(()),
+        Version::Two => {
+            let tree = tree.duplicate(alloc)?;
+            put_row(alloc, made, StoredRow::Tree { arrival, tree })
+        }
+    }
+}
+
 // Puts the item of a row, if a provider gives it, and its tree.
 #[tactic(auto, using(crate::proofs::Putting::put_parts))]
-fn put_given(alloc: Global, made: &mut Stored, arrival: u64, row: &Row) -> Result<(), AllocError>
-    ensures { OnOk result (made.new ≡ spec.put_rows (spec.given_rows (arrival, row.now)) made.old) }
+fn put_given(
+    alloc: Global,
+    made: &mut Stored,
+    version: Version,
+    arrival: u64,
+    row: &Row,
+) -> Result<(), AllocError>
+    ensures { OnOk result (made.new ≡ spec.put_rows (spec.given_in version (arrival, row.now)) made.old) }
 {
-    put_item(alloc, made, arrival, row)?;
-    let tree = row.offered.tree.duplicate(alloc)?;
-    put_row(alloc, made, StoredRow::Tree { arrival, tree })
+    put_item(alloc, made, version, arrival, row)?;
+    put_tree(alloc, made, version, arrival, &row.offered.tree)
 }
 
 // Puts the items and the trees of all rows.
 #[tactic(auto, using(crate::proofs::Putting::put_parts))]
-fn put_all_given(alloc: Global, made: &mut Stored, rows: &[(u64, Row)]) -> Result<(), AllocError>
-    ensures { OnOk result (made.new ≡ spec.put_rows (flat_map spec.given_rows rows.now) made.old) }
+fn put_all_given(
+    alloc: Global,
+    made: &mut Stored,
+    version: Version,
+    rows: &[(u64, Row)],
+) -> Result<(), AllocError>
+    ensures { OnOk result (made.new ≡ spec.put_rows (flat_map (spec.given_in version) rows.now) made.old) }
 {
     for (arrival, row) in rows {
-        put_given(alloc, made, *arrival, row)?;
+        put_given(alloc, made, version, *arrival, row)?;
     }
     Ok(())
 }
@@ -123,14 +155,15 @@ fn emitted(alloc: Global, rows: &[(u64, Row)]) -> Result<Emitted, AllocError>
 fn put_records(
     alloc: Global,
     made: &mut Stored,
+    version: Version,
     holders: &Entries<Ref, u64>,
     arrivals: &Emitted,
     records: &[(Ref, Record)],
 ) -> Result<(), AllocError>
-    ensures { OnOk result (made.new ≡ spec.put_rows (map (spec.record_row holders.now arrivals.now) records.now) made.old) }
+    ensures { OnOk result (made.new ≡ spec.put_rows (map (spec.record_in version holders.now arrivals.now) records.now) made.old) }
 {
     for (reference, record) in records {
-        let row = record_row(alloc, holders, arrivals, reference, record)?;
+        let row = record_row(alloc, version, holders, arrivals, reference, record)?;
         put_row(alloc, made, row)?;
     }
     Ok(())
@@ -150,14 +183,9 @@ fn put_orphans(
     Ok(())
 }
 
-// Puts the counters and the rule.
-fn put_counters(
-    alloc: Global,
-    made: &mut Stored,
-    rule: OrphanRule,
-    m: &State,
-) -> Result<(), AllocError>
-    ensures { OnOk result (made.new ≡ spec.put_rows (StoredRow.Settings (spec.rule_of rule) ∷ []) (spec.put_rows (spec.counter_rows m.now) made.old)) }
+/// Puts the counters.
+pub(crate) fn put_counters(alloc: Global, made: &mut Stored, m: &State) -> Result<(), AllocError>
+    ensures { OnOk result (made.new ≡ spec.put_rows (spec.counter_rows m.now) made.old) }
 {
     put_row(
         alloc,
@@ -168,18 +196,41 @@ fn put_counters(
         alloc,
         made,
         StoredRow::Counter(StoredCounter::Number, m.number),
-    )?;
-    put_row(alloc, made, StoredRow::Settings(rule_of(rule)))
+    )
 }
 
-// Whether there is nothing that a store tells of.
-fn is_blank(rule: OrphanRule, m: &State) -> bool
+/// Whether there is nothing that a store tells of.
+pub(crate) fn is_blank(rule: OrphanRule, m: &State) -> bool
     ensures { result ≡ spec.is_blank rule m.now }
 {
     let inputs = m.providers.len() == 0 && m.shelf.len() == 0;
     let kept = m.records.len() == 0 && m.orphans.len() == 0;
     let drawn = m.arrival == 1 && m.number == 1;
     inputs && kept && drawn && rule == OrphanRule::Keep
+}
+
+/// Puts the rows of all that a state keeps beside its counters, as a version has them.
+pub(crate) fn put_kept(
+    alloc: Global,
+    made: &mut Stored,
+    version: Version,
+    m: &State,
+) -> Result<(), AllocError>
+    ensures { OnOk result (made.new ≡ spec.put_rows (spec.kept_in version m.now) made.old) }
+{
+    put_providers(alloc, made, m.providers.as_slice())?;
+    put_all_given(alloc, made, version, m.rows.as_slice())?;
+    put_shelf(alloc, made, m.shelf.as_slice())?;
+    let arrivals = emitted(alloc, m.rows.as_slice())?;
+    put_records(
+        alloc,
+        made,
+        version,
+        &m.holders,
+        &arrivals,
+        m.records.as_slice(),
+    )?;
+    put_orphans(alloc, made, m.orphans.as_slice())
 }
 
 // Puts all rows of a state.
@@ -191,13 +242,9 @@ fn put_state(
 ) -> Result<(), AllocError>
     ensures { OnOk result (made.new ≡ spec.put_rows (spec.all_rows rule m.now) made.old) }
 {
-    put_counters(alloc, made, rule, m)?;
-    put_providers(alloc, made, m.providers.as_slice())?;
-    put_all_given(alloc, made, m.rows.as_slice())?;
-    put_shelf(alloc, made, m.shelf.as_slice())?;
-    let arrivals = emitted(alloc, m.rows.as_slice())?;
-    put_records(alloc, made, &m.holders, &arrivals, m.records.as_slice())?;
-    put_orphans(alloc, made, m.orphans.as_slice())
+    put_counters(alloc, made, m)?;
+    put_row(alloc, made, StoredRow::Settings(rule_of(rule)))?;
+    put_kept(alloc, made, Version::Two, m)
 }
 
 /// The rows that are stored of a state under a rule for orphans. None are where the state is empty, no number was drawn, and

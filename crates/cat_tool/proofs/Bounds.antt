@@ -9,8 +9,8 @@ use Rattle.std.specs.declared.option.Option.TheVariants.{None, Some}
 use Rattle.cat_commands.specs.Arguments.{number}
 use Rattle.cat_model.specs.declared.types.OrphanRule.{OrphanRule}
 use Rattle.cat_model.specs.declared.types.OrphanRule.TheVariants.{Keep}
-use Rattle.cat_tool.specs.Options.{is_crew, no_options, rule_of, serving_by, with_options}
-use Rattle.cat_tool.specs.Words.{alone, command_of, is_kept, sample_of, serve, stored, stored_under, under, with_four, with_more, with_rule, with_two, without_serve}
+use Rattle.cat_tool.specs.Options.{is_crew, is_kept, no_options, rule_of, serving_by, with_options}
+use Rattle.cat_tool.specs.Words.{alone, command_of, sample_of, serve, stored, stored_under, under, with_four, with_more, with_rule, with_two, without_serve}
 use Rattle.cat_tool.specs.declared.options.Options.{Options}
 use Rattle.cat_tool.specs.declared.options.Serving.{Serving}
 use Rattle.cat_tool.specs.declared.words.Command.{Command}
@@ -42,16 +42,16 @@ either false x y p q = q
 is_some : (n : ℕ) → is_crew n ≡ true → 0 < n
 is_some n is = grind (arith, nat_tests)
 
-crewed : (rule : OrphanRule) (w n : ℕ) (a b : Bool) → is_crew n ≡ b → Serves (if a && b then Some (record { orphans = rule; workers = w; connections = n }) else None)
-crewed rule w n false b is = tt
-crewed rule w n true false is = tt
-crewed rule w n true true is = is_some n is
+crewed : (rule : Option OrphanRule) (kept : Bool) (w n : ℕ) (a b : Bool) → is_crew n ≡ b → Serves (if a && b then Some (record { orphans = rule; kept = kept; workers = w; connections = n }) else None)
+crewed rule kept w n false b is = tt
+crewed rule kept w n true false is = tt
+crewed rule kept w n true true is = is_some n is
 
 by_options : (o : Option Options) → Serves (option_and_then serving_by o)
 by_options None = tt
 by_options (Some o) =
     let n = unwrap_or o.connections 4 in
-    crewed (unwrap_or o.orphans Keep) (unwrap_or o.workers 2) n (is_crew (unwrap_or o.workers 2)) (is_crew n) refl
+    crewed o.orphans o.kept (unwrap_or o.workers 2) n (is_crew (unwrap_or o.workers 2)) (is_crew n) refl
 
 behind : (b : Bool) (o : Option Options) → Serves (if b then None else option_and_then serving_by o)
 behind true o = tt

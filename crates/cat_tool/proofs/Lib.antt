@@ -1,3 +1,5 @@
 pub mod Bounds
+pub mod Parted
 pub mod Ruled
+pub mod Sent
 pub mod Served

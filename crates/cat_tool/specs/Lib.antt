@@ -1,3 +1,4 @@
+pub mod Ended
 pub mod Options
 pub mod Words
 pub mod Sessions

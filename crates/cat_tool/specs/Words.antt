@@ -1,11 +1,11 @@
 -- The command that the words of a command line are.
-use Rattle.std.specs.Prelude.{ℕ, List, [], ◌∷◌, Option, None, Some, Bool, bytes_eq, codes, nat_lt, nat_le, ◌&&◌, ◌||◌, if◌then◌else◌, option_map}
+use Rattle.std.specs.Prelude.{◌≡◌, ⊤, true, ℕ, List, [], ◌∷◌, Option, None, Some, bytes_eq, codes, nat_lt, nat_le, ◌&&◌, if◌then◌else◌, option_map}
 use Rattle.cat_commands.specs.Arguments.{number}
 use Rattle.cat_keeper.specs.declared.keeper.Place.{Place}
 use Rattle.cat_keeper.specs.declared.keeper.Place.TheVariants.{File, Journal}
 use Rattle.cat_model.specs.declared.types.OrphanRule.{OrphanRule}
 use Rattle.cat_model.specs.declared.types.OrphanRule.TheVariants.{Keep}
-use Rattle.cat_tool.specs.Options.{rule_of, serving_of}
+use Rattle.cat_tool.specs.Options.{is_kept, rule_of, serving_of}
 use Rattle.cat_tool.specs.declared.words.Command.{Command}
 use Rattle.cat_tool.specs.declared.words.Command.TheVariants.{Session, Stored, Wire, StoredWire, Serve, Mirror, Sample}
 
@@ -21,10 +21,6 @@ alone word = if bytes_eq word (codes "mirror") then Some Mirror else under Keep 
 abbrev pub with_rule : Option OrphanRule → List ℕ → Option Command
 with_rule None word = None
 with_rule (Some rule) word = under rule word
-
--- the option names a file that keeps rows: a database, or a journal
-abbrev pub is_kept : List ℕ → Bool
-is_kept option = bytes_eq option (codes "--store") || bytes_eq option (codes "--journal")
 
 -- a session or a connection over a store, under a rule or the stored one
 abbrev pub stored : Option OrphanRule → List ℕ → Option Command
@@ -80,22 +76,36 @@ abbrev pub command_of : List (List ℕ) → Option Command
 command_of [] = None
 command_of (word ∷ words) = if bytes_eq word (codes "serve") then serve words else without_serve word words
 
+-- the command is over a store
+abbrev pub IsOverStore : Option Command → Type 0
+IsOverStore None = ⊥
+IsOverStore (Some (Session rule)) = ⊥
+IsOverStore (Some (Stored rule)) = ⊤
+IsOverStore (Some (Wire rule)) = ⊥
+IsOverStore (Some (StoredWire rule)) = ⊤
+IsOverStore (Some (Serve serving)) = serving.kept ≡ true
+IsOverStore (Some Mirror) = ⊥
+IsOverStore (Some (Sample seed count)) = ⊥
+
 -- the place that an option and its value name
 abbrev pub kept_at : List ℕ → List ℕ → Place
 kept_at option file = if bytes_eq option (codes "--journal") then Journal file else File file
 
--- the place that the second of two options and its value name
-abbrev pub second_place : List (List ℕ) → Place
-second_place [] = File []
-second_place (option ∷ []) = File []
-second_place (option ∷ file ∷ words) = kept_at option file
+-- the place that the first option which names a file names, each option with its value
+abbrev pub place_among : List (List ℕ) → Place
+place_among [] = File []
+place_among (option ∷ []) = File []
+place_among (option ∷ value ∷ words) = if is_kept option then kept_at option value else place_among words
 
--- the place of a session or a connection over a store: the file behind the option that names one
+-- the same of a server, behind its address
+abbrev pub place_behind : List (List ℕ) → Place
+place_behind [] = File []
+place_behind (address ∷ words) = place_among words
+
+-- the place of a session, a connection or a server over a store: the file behind the option that names one
 abbrev pub place_of : List (List ℕ) → Place
 place_of [] = File []
-place_of (word ∷ []) = File []
-place_of (word ∷ option ∷ []) = File []
-place_of (word ∷ option ∷ file ∷ words) = if is_kept option then kept_at option file else second_place words
+place_of (word ∷ words) = if bytes_eq word (codes "serve") then place_behind words else place_among words
 
 -- the address of a `serve`: the second of its words
 abbrev pub address_of : List (List ℕ) → List ℕ

@@ -16,7 +16,7 @@ mod top;
 mod words;
 
 pub use cat_ends::Status;
-pub use cat_stored::Ran;
 pub use options::Serving;
+pub use server::Ended;
 pub use top::run;
 pub use words::{Command, command_of};

@@ -14,11 +14,13 @@ const WORKERS: u64 = 2;
 /// How many connections are served at once, where no option says it.
 const CONNECTIONS: u64 = 4;
 
-/// How a server runs: what it does with orphans, and who works and who serves.
+/// How a server runs: what it does with orphans, whether a file keeps its catalogue, and who works and who serves.
 #[derive(Clone, Copy, Debug, Drop, PartialEq, Eq)]
 pub struct Serving {
-    /// What becomes of orphans.
-    pub orphans: OrphanRule,
+    /// What becomes of orphans, if an option says it.
+    pub orphans: Option<OrphanRule>,
+    /// Whether a file keeps its catalogue.
+    pub kept: bool,
     /// How many pairs of workers there are: 1 to 16.
     pub workers: u64,
     /// How many connections are served at once: 1 to 16.
@@ -29,6 +31,7 @@ pub struct Serving {
 #[derive(Clone, Copy, Drop)]
 struct Options {
     orphans: Option<OrphanRule>,
+    kept: bool,
     workers: Option<u64>,
     connections: Option<u64>,
 }
@@ -61,6 +64,26 @@ fn with_orphans(options: Options, value: &str) -> Option<Options>
     Some(Options { orphans, ..options })
 }
 
+/// Whether an option names a file that keeps rows: a database, or a journal.
+pub(crate) fn is_kept(option: &str) -> bool
+    ensures { result ≡ spec.is_kept option.now }
+{
+    option == "--store" || option == "--journal"
+}
+
+fn with_kept(options: Options) -> Option<Options>
+    ensures { result ≡ spec.with_kept options }
+{
+    if options.kept {
+        None
+    } else {
+        Some(Options {
+            kept: true,
+            ..options
+        })
+    }
+}
+
 fn with_workers(options: Options, value: &str) -> Option<Options>
     ensures { result ≡ spec.with_workers options value.now }
 {
@@ -85,6 +108,7 @@ fn with_option(options: Options, name: &str, value: &str) -> Option<Options>
         "--orphans" => with_orphans(options, value),
         "--workers" => with_workers(options, value),
         "--connections" => with_connections(options, value),
+        _ if is_kept(name) => with_kept(options),
         _ => None,
     }
 }
@@ -108,12 +132,18 @@ fn is_crew(count: u64) -> bool
     0 < count && count <= MOST
 }
 
-fn serving_within(orphans: OrphanRule, workers: u64, connections: u64) -> Option<Serving>
-    ensures { result ≡ spec.serving_within orphans workers connections }
+fn serving_within(
+    orphans: Option<OrphanRule>,
+    kept: bool,
+    workers: u64,
+    connections: u64,
+) -> Option<Serving>
+    ensures { result ≡ spec.serving_within orphans kept workers connections }
 {
     if is_crew(workers) && is_crew(connections) {
         Some(Serving {
             orphans,
+            kept,
             workers,
             connections,
         })
@@ -127,15 +157,16 @@ fn serving_by(options: Options) -> Option<Serving>
     ensures { result ≡ spec.serving_by options }
 {
     serving_within(
-        options.orphans.unwrap_or(OrphanRule::Keep),
+        options.orphans,
+        options.kept,
         options.workers.unwrap_or(WORKERS),
         options.connections.unwrap_or(CONNECTIONS),
     )
 }
 
 /// How a server runs by the words behind `serve`, if they are right: an address, which doesn't begin with `--`, and then options, each
-/// at most once and in any order: `--orphans` with `keep` or `delete`, `--workers` and `--connections` with 1 to 16. Without them it
-/// keeps orphans, has two pairs of workers, and serves four connections at once.
+/// at most once and in any order: `--orphans` with `keep` or `delete`, `--workers` and `--connections` with 1 to 16, and one of `--store` and
+/// `--journal` with a file. Without them it has two pairs of workers, and serves four connections at once.
 pub(crate) fn serving_of(words: &[String]) -> Option<Serving>
     ensures { result ≡ spec.serving_of (map string_bytes words.now) }
 {
@@ -143,6 +174,7 @@ pub(crate) fn serving_of(words: &[String]) -> Option<Serving>
         [address, options @ ..] if !address.as_bytes().starts_with(b"--") => {
             let none = Options {
                 orphans: None,
+                kept: false,
                 workers: None,
                 connections: None,
             };

@@ -1,6 +1,6 @@
 //! The top call over the catalogue.
 
-ghost use Rattle.std.specs.Prelude.{◌≡◌, ◌≢◌, ℕ, List, [], Ok, Option, Some, None, ◌<◌, ◌≤◌, ◌^◌, ◌↔◌, ◌⊎◌, map, string_bytes};
+ghost use Rattle.std.specs.Prelude.{◌≡◌, ◌≢◌, ℕ, List, [], true, Ok, Option, Some, None, ◌<◌, ◌≤◌, ◌^◌, ◌↔◌, ◌⊎◌, map, string_bytes};
 ghost use Rattle.std.specs.Io.KnownBytes.{Appends};
 ghost use Rattle.cat_api.specs.Wire.{Wired, wire_after, wire_reply};
 ghost use Rattle.cat_commands.specs.Lines.{line_of};
@@ -24,12 +24,13 @@ ghost use Rattle.cat_model.specs.declared.types.OrphanRule.{OrphanRule};
 ghost use Rattle.cat_model.specs.declared.types.OrphanRule.TheVariants.{Delete, Keep};
 ghost use Rattle.cat_replies.specs.Events.{settled};
 ghost use Rattle.cat_sample.specs.Summary.{sample_line};
+ghost use Rattle.cat_tool.specs.Ended.{faults_left, tables_left};
 ghost use Rattle.cat_tool.specs.Mirrors.{HasMirrored, MirrorsSome};
 ghost use Rattle.cat_tool.specs.Sessions.{reply_next, session_at, session_next};
 ghost use Rattle.cat_ends.specs.Status.{HasRun, HasServed, HasTold};
 ghost use Rattle.cat_stored.specs.Stores.{HasKept, HasKeptWire, IsRefused};
 ghost use Rattle.cat_tool.specs.Wires.{wire_start};
-ghost use Rattle.cat_tool.specs.Words.{command_of, place_of};
+ghost use Rattle.cat_tool.specs.Words.{IsOverStore, command_of, place_of};
 ghost use Rattle.cat_ends.specs.declared.command.TheConstants.{USAGE};
 ghost use Rattle.cat_tool.specs.declared.options.Serving.{Serving};
 ghost use Rattle.cat_transcript.specs.Inputs.{accepted_commands, inputs_fold, inputs_of};
@@ -40,7 +41,7 @@ ghost use Rattle.cat_transcript.specs.declared.state.SessionState.{SessionState}
 ghost use Rattle.cat_wire.specs.Worded.{HasWords};
 
 use crate::mirror::run_mirror;
-use crate::server::run_serve;
+use crate::server::{Ended, run_serve, run_stored_serve};
 use crate::words::{Command, address_of, command_of, place_of};
 use cat_api::service::Service;
 use cat_core::catalogue::{Catalogue, Done, Stitched};
@@ -134,11 +135,28 @@ fn tell_sample<O: Sink>(alloc: Global, seed: u64, count: u64, sink: &mut O) -> S
     }
 }
 
+// A command that leaves the keeper alone ended so.
+fn whole<K>(status: Status, keeper: K) -> Ended<K>
+    ensures { result ≡ record { status = status; keeper = Some keeper } }
+{
+    Ended {
+        status,
+        keeper: Some(keeper),
+    }
+}
+
+// A command over a store ended so, and gives its keeper back.
+fn given_back<K>(ran: Ran<K>) -> Ended<K>
+    ensures { result ≡ record { status = ran.status; keeper = Some ran.keeper } }
+{
+    whole(ran.status, ran.keeper)
+}
+
 /// Runs the command that the words are. `session` answers the lines of the source over an empty catalogue, one reply a line; `wire`
 /// answers the messages of one HTTP connection over an empty catalogue whose moment is 0; each of them keeps or deletes what leaves at a
 /// finish, by the rule for orphans among its words. With `--store` or `--journal` they answer over the catalogue that the keeper has in
 /// that file, and keep there what changes. `serve` listens at an address, and serves the HTTP connections that come over an empty
-/// catalogue, with workers beside them. `mirror` follows the feed whose changes are the lines of the source. `sample` with a seed and a
+/// catalogue, or over the one that the keeper has in a file, with workers beside them. `mirror` follows the feed whose changes are the lines of the source. `sample` with a seed and a
 /// count makes a sample and writes its line. Other words write the usage line.
 ///
 /// The status says how it ended: 0 where all input was read and answered, and for `serve` where the doors have closed; 2 for usage; 3 where
@@ -150,7 +168,7 @@ pub fn run<
     O: Sink,
     C: Clock + Drop + Send,
     D: Doors + Send,
-    K: Keeper,
+    K: Keeper + Drop + Send,
     R: Threads + Wait + Sync,
 >(
     rt: &R,
@@ -161,7 +179,7 @@ pub fn run<
     clock: C,
     doors: &mut D,
     keeper: K,
-) -> Ran<K>
+) -> Ended<K>
     // The bytes written are the abstract catalogue's replies to the lines of the bytes that the source told.
     ensures headline { (rule : OrphanRule) → command_of (map string_bytes words.now) ≡ Some (Command.Session rule) → (end : SessionState)
         × HasRun (session_after layered (program_settings rule)) (session_reply layered (program_settings rule)) result.status.0
@@ -171,7 +189,7 @@ pub fn run<
     ensures stored { (rule : Option OrphanRule) → command_of (map string_bytes words.now) ≡ Some (Command.Stored rule)
         → (result.status.0 ≡ 5) ⊎ ((result.status.0 ≡ 6) ⊎ ((result.status.0 ≡ 9)
         ⊎ HasKept (place_of (map string_bytes words.now)) rule (K.tables (place_of (map string_bytes words.now)) keeper) result.status.0
-        (S.left source.old) (S.left source.new) (O.written sink.old) (O.written sink.new) (λ place. K.tables place result.keeper) (K.faults result.keeper))) }
+        (S.left source.old) (S.left source.new) (O.written sink.old) (O.written sink.new) (λ place. tables_left (K.tables place) result.keeper) (faults_left K.faults result.keeper))) }
 
     // The same of the messages of a connection, with the catalogue's feed.
     ensures connection { (rule : OrphanRule) → command_of (map string_bytes words.now) ≡ Some (Command.Wire rule) → (end : Wired)
@@ -182,7 +200,7 @@ pub fn run<
     ensures stored_connection { (rule : Option OrphanRule) → command_of (map string_bytes words.now) ≡ Some (Command.StoredWire rule)
         → (result.status.0 ≡ 5) ⊎ ((result.status.0 ≡ 6) ⊎ ((result.status.0 ≡ 9)
         ⊎ HasKeptWire (place_of (map string_bytes words.now)) rule (K.tables (place_of (map string_bytes words.now)) keeper) result.status.0
-        (S.left source.old) (S.left source.new) (O.written sink.old) (O.written sink.new) (λ place. K.tables place result.keeper) (K.faults result.keeper))) }
+        (S.left source.old) (S.left source.new) (O.written sink.old) (O.written sink.new) (λ place. tables_left (K.tables place) result.keeper) (faults_left K.faults result.keeper))) }
 
     // The line of a sample is that of the abstract catalogue.
     ensures sample { (seed count : ℕ) → command_of (map string_bytes words.now) ≡ Some (Command.Sample seed count)
@@ -196,9 +214,9 @@ pub fn run<
     ensures closed { (serving : Serving) → command_of (map string_bytes words.now) ≡ Some (Command.Serve serving)
         → result.status.0 ≡ 0 → HaveClosed (D.closed doors.new) }
 
-    // It leaves the source and the sink alone, and no other command touches the doors.
+    // It leaves the source alone, and the sink but for the line that refuses a store, and no other command touches the doors.
     ensures served_apart { (serving : Serving) → command_of (map string_bytes words.now) ≡ Some (Command.Serve serving)
-        → (source.new ≡ source.old) × (sink.new ≡ sink.old) }
+        → (source.new ≡ source.old) × (result.status.0 ≢ 6 → sink.new ≡ sink.old) }
     ensures doors_apart { ((serving : Serving) → command_of (map string_bytes words.now) ≢ Some (Command.Serve serving)) → doors.new ≡ doors.old }
 
     // After every prefix of the lines, where that catalogue is quiet its documents are those computed afresh.
@@ -232,11 +250,13 @@ pub fn run<
     ensures usage_same { result.status.0 ≡ 2 → source.new ≡ source.old }
     ensures read_fault { result.status.0 ≡ 3 → Rose (S.faults source.old) (S.faults source.new) }
     ensures write_fault { result.status.0 ≡ 4 → Rose (O.faults sink.old) (O.faults sink.new) }
-    ensures store_same { (result.status.0 ≡ 5) ⊎ (result.status.0 ≡ 6) → Stays (K.tables (place_of (map string_bytes words.now)) keeper) (K.tables (place_of (map string_bytes words.now)) result.keeper) }
-    ensures keeper_fault { result.status.0 ≡ 5 → Rose (K.faults keeper) (K.faults result.keeper) }
+    ensures store_same { (result.status.0 ≡ 5) ⊎ (result.status.0 ≡ 6) → Stays (K.tables (place_of (map string_bytes words.now)) keeper) (tables_left (K.tables (place_of (map string_bytes words.now))) result.keeper) }
+    ensures keeper_fault { result.status.0 ≡ 5 → Rose (K.faults keeper) (faults_left K.faults result.keeper) }
     ensures refused_store { result.status.0 ≡ 6 → IsRefused (O.written sink.old) (O.written sink.new) (O.faults sink.old) (O.faults sink.new) }
-    ensures stores_alone { (result.status.0 ≡ 5) ⊎ (result.status.0 ≡ 6) → (rule : Option OrphanRule)
-        × ((command_of (map string_bytes words.now) ≡ Some (Command.Stored rule)) ⊎ (command_of (map string_bytes words.now) ≡ Some (Command.StoredWire rule))) }
+    ensures stores_alone { (result.status.0 ≡ 5) ⊎ (result.status.0 ≡ 6) → IsOverStore (command_of (map string_bytes words.now)) }
+
+    // The keeper is given back, but of a server that began to serve over its store.
+    ensures returned { result.keeper ≡ None → (serving : Serving) × (command_of (map string_bytes words.now) ≡ Some (Command.Serve serving)) × (serving.kept ≡ true) }
     ensures doors_fault { result.status.0 ≡ 7 → Rose (D.faults doors.old) (D.faults doors.new) }
 
     // Memory lacks before anything is read or written, but a mirror may lack it at any line.
@@ -253,7 +273,7 @@ pub fn run<
     // Where no end failed, a command ends whole, for want of memory or at the bound, but a store may be refused.
     ensures complete { command_of (map string_bytes words.now) ≢ None
         → (Rose (S.faults source.old) (S.faults source.new) → ⊥) → (Rose (O.faults sink.old) (O.faults sink.new) → ⊥)
-        → (Rose (D.faults doors.old) (D.faults doors.new) → ⊥) → (Rose (K.faults keeper) (K.faults result.keeper) → ⊥)
+        → (Rose (D.faults doors.old) (D.faults doors.new) → ⊥) → (Rose (K.faults keeper) (faults_left K.faults result.keeper) → ⊥)
         → (result.status.0 ≡ 0) ⊎ ((result.status.0 ≡ 6) ⊎ ((result.status.0 ≡ 9) ⊎ (result.status.0 ≡ 10))) }
 {
     sessions_stay_sound();
@@ -262,43 +282,36 @@ pub fn run<
     settled_sessions_are_at_rest();
     kept_sessions_stay_sound();
     match command_of(words) {
-        None => Ran {
-            status: usage(sink),
-            keeper,
-        },
-        Some(Command::Session(orphans)) => Ran {
-            status: run_session(alloc, orphans, source, sink),
-            keeper,
-        },
+        None => whole(usage(sink), keeper),
+        Some(Command::Session(orphans)) => {
+            whole(run_session(alloc, orphans, source, sink), keeper)
+        }
         Some(Command::Stored(orphans)) => match place_of(alloc, words) {
-            Ok(place) => run_stored(alloc, orphans, place, keeper, source, sink),
-            Err(_) => Ran {
-                status: Status(9),
-                keeper,
-            },
+            Ok(place) => given_back(run_stored(alloc, orphans, place, keeper, source, sink)),
+            Err(_) => whole(Status(9), keeper),
         },
-        Some(Command::Wire(orphans)) => Ran {
-            status: run_connection(alloc, orphans, source, sink),
-            keeper,
-        },
+        Some(Command::Wire(orphans)) => {
+            whole(run_connection(alloc, orphans, source, sink), keeper)
+        }
         Some(Command::StoredWire(orphans)) => match place_of(alloc, words) {
-            Ok(place) => run_stored_connection(alloc, orphans, place, keeper, source, sink),
-            Err(_) => Ran {
-                status: Status(9),
-                keeper,
-            },
+            Ok(place) => given_back(run_stored_connection(
+                alloc, orphans, place, keeper, source, sink,
+            )),
+            Err(_) => whole(Status(9), keeper),
         },
-        Some(Command::Serve(serving)) => Ran {
-            status: run_serve(rt, alloc, address_of(words), serving, clock, doors),
-            keeper,
-        },
-        Some(Command::Mirror) => Ran {
-            status: run_mirror(alloc, source, sink),
-            keeper,
-        },
-        Some(Command::Sample(seed, count)) => Ran {
-            status: tell_sample(alloc, seed, count, sink),
-            keeper,
-        },
+        Some(Command::Serve(serving)) => {
+            if serving.kept {
+                run_stored_serve(rt, alloc, words, serving, sink, clock, doors, keeper)
+            } else {
+                whole(
+                    run_serve(rt, alloc, address_of(words), serving, clock, doors),
+                    keeper,
+                )
+            }
+        }
+        Some(Command::Mirror) => whole(run_mirror(alloc, source, sink), keeper),
+        Some(Command::Sample(seed, count)) => {
+            whole(tell_sample(alloc, seed, count, sink), keeper)
+        }
     }
 }

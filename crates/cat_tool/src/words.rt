@@ -2,7 +2,7 @@
 ghost use Rattle.std.specs.Prelude.{◌≡◌, ◌<◌, ◌≤◌, ◌^◌, IfOk, map, string_bytes};
 ghost use Rattle.cat_tool.specs.Words as spec;
 
-use crate::options::{Serving, rule_of, serving_of};
+use crate::options::{Serving, is_kept, rule_of, serving_of};
 use cat_commands::argument::number;
 use cat_keeper::keeper::Place;
 use cat_model::types::OrphanRule;
@@ -72,13 +72,6 @@ fn stored_under(rule: Option<OrphanRule>, word: &str) -> Option<Command>
         Some(rule) => stored(Some(rule), word),
         None => None,
     }
-}
-
-// Whether an option names a file that keeps rows: a database, or a journal.
-fn is_kept(option: &str) -> bool
-    ensures { result ≡ spec.is_kept option.now }
-{
-    option == "--store" || option == "--journal"
 }
 
 // A session or a connection over a store.
@@ -191,16 +184,45 @@ fn kept_at(alloc: Global, option: &str, file: &str) -> Result<Place, AllocError>
     }
 }
 
-/// The place of a session or a connection over a store: the file behind `--store` or `--journal`.
+// The place that the first option which names a file names.
+fn place_among(alloc: Global, words: &[String]) -> Result<Place, AllocError>
+    ensures { IfOk result (λ place. place ≡ spec.place_among (map string_bytes words.now)) }
+{
+    match words {
+        [option, value, rest @ ..] => {
+            if is_kept(option.as_str()) {
+                kept_at(alloc, option.as_str(), value.as_str())
+            } else {
+                place_among(alloc, rest)
+            }
+        }
+        _ => Ok(Place::File(Text::of(alloc, "")?)),
+    }
+}
+
+// The place of a server, behind its address.
+fn place_behind(alloc: Global, words: &[String]) -> Result<Place, AllocError>
+    ensures { IfOk result (λ place. place ≡ spec.place_behind (map string_bytes words.now)) }
+{
+    match words {
+        [] => Ok(Place::File(Text::of(alloc, "")?)),
+        [_, options @ ..] => place_among(alloc, options),
+    }
+}
+
+/// The place of a session, a connection or a server over a store: the file behind `--store` or `--journal`.
 pub(crate) fn place_of(alloc: Global, words: &[String]) -> Result<Place, AllocError>
     ensures { IfOk result (λ place. place ≡ spec.place_of (map string_bytes words.now)) }
 {
     match words {
-        [_, option, file, ..] if is_kept(option.as_str()) => {
-            kept_at(alloc, option.as_str(), file.as_str())
+        [] => Ok(Place::File(Text::of(alloc, "")?)),
+        [word, rest @ ..] => {
+            if word.as_str() == "serve" {
+                place_behind(alloc, rest)
+            } else {
+                place_among(alloc, rest)
+            }
         }
-        [_, _, _, option, file, ..] => kept_at(alloc, option.as_str(), file.as_str()),
-        _ => Ok(Place::File(Text::of(alloc, "")?)),
     }
 }
 

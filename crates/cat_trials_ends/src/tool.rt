@@ -5,7 +5,8 @@ use std::test::Fail;
 
 /// How a server runs without options.
 const USUAL: Serving = Serving {
-    orphans: OrphanRule::Keep,
+    orphans: None,
+    kept: false,
     workers: 2,
     connections: 4,
 };
@@ -13,7 +14,7 @@ const USUAL: Serving = Serving {
 #[test]
 fn words_are_commands(rt: HostRuntime) -> Result<(), Fail> {
     let alloc = rt.alloc();
-    let cases: [(&[&str], Option<Command>); 48] = [
+    let cases: [(&[&str], Option<Command>); 52] = [
         (&["session"], Some(Command::Session(OrphanRule::Keep))),
         (&["wire"], Some(Command::Wire(OrphanRule::Keep))),
         (
@@ -94,10 +95,32 @@ fn words_are_commands(rt: HostRuntime) -> Result<(), Fail> {
                 "1",
             ],
             Some(Command::Serve(Serving {
-                orphans: OrphanRule::Delete,
+                orphans: Some(OrphanRule::Delete),
                 workers: 1,
                 connections: 8,
+                ..USUAL
             })),
+        ),
+        (
+            &["serve", "a:1", "--store", "a.db", "--workers", "3"],
+            Some(Command::Serve(Serving {
+                kept: true,
+                workers: 3,
+                ..USUAL
+            })),
+        ),
+        (
+            &["serve", "a:1", "--orphans", "keep", "--journal", "a.log"],
+            Some(Command::Serve(Serving {
+                orphans: Some(OrphanRule::Keep),
+                kept: true,
+                ..USUAL
+            })),
+        ),
+        (&["serve", "a:1", "--store"], None),
+        (
+            &["serve", "a:1", "--store", "a.db", "--journal", "a.log"],
+            None,
         ),
         (&["serve", "a:1", "--workers", "0"], None),
         (&["serve", "a:1", "--workers", "17"], None),

@@ -1,6 +1,7 @@
 use Rattle.cat_journal.proofs.Loadings.{load_safe, load_again, load_first, settle_failed_safe}
 use Rattle.cat_journal.proofs.Loadings.{decided_is}
 use Rattle.cat_journal.proofs.Standing.{taken_safe, unsettled_safe}
+use Rattle.cat_journal.proofs.Scanning.{load_scanned}
 use Rattle.cat_journal.proofs.load.load_rows.Goals as goal
 
 pub returns-in_default-Done-clause-safe : goal.returns-in_default-Done-clause-safe
@@ -25,3 +26,6 @@ returns-in_default-Done-clause-crash g c = λ base more s.
 pub returns-in_default-Failed-clause-crash : goal.returns-in_default-Failed-clause-crash
 returns-in_default-Failed-clause-crash g c = λ base more s.
     unsettled_safe base more (g.D.Disk.moments c.args.disk.now) (g.D.Disk.moments c.settle.new.disk) (g.D.Disk.content c.args.disk.now) (g.D.Disk.content c.settle.new.disk) c.settle.result.0 (rw c.in_default-Failed.is-1 at (c.settle.ensures.crash base more s))
+
+pub returns-in_default-Done-clause-scanned : goal.returns-in_default-Done-clause-scanned
+returns-in_default-Done-clause-scanned g c = load_scanned c.args.known c.settle.result.0 c.read_and_take.result.0 (g.D.Disk.moments c.args.disk.now) (g.D.Disk.moments c.settle.new.disk) (g.D.Disk.moments c.read_and_take.new.disk) (g.D.Disk.content c.args.disk.now) (g.D.Disk.content c.settle.new.disk) (g.D.Disk.content c.read_and_take.new.disk) c.read_and_take.result.1 (rw c.in_default-Done.is-1 at c.settle.ensures.settles) (rw c.in_default-Done.is-1 at c.settle.ensures.reads) c.read_and_take.ensures.takes c.read_and_take.ensures.reads

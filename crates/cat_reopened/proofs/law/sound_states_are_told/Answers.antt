@@ -9,6 +9,7 @@ use Rattle.cat_model.specs.declared.types.Origin.TheVariants.{Provider, Entity}
 use Rattle.cat_model.specs.declared.types.OrphanRule.TheVariants.{Keep, Delete}
 use Rattle.cat_reopened.specs.Told.{AreNarrow, IsTold}
 use Rattle.cat_reopened.proofs.In.{none_some}
+use Rattle.cat_reopened.proofs.Narrow.{firsts_narrow}
 use Rattle.cat_reopened.proofs.law.sound_states_are_told.Goals as goal
 
 -- ---- an empty catalogue
@@ -56,3 +57,6 @@ returns-clause-sound c rules form m sound formed narrow = record {
   records_in_order = sound.in_order;
   orphans_in_order = formed.orphans_in_order;
 }
+
+pub returns-clause-first : goal.returns-clause-first
+returns-clause-first c m t placed = firsts_narrow m t placed

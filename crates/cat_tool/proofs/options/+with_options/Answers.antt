@@ -1,15 +1,9 @@
-use Rattle.std.proofs.Common.{◌≡◌, ℕ, ◌≤◌, List, [], ◌∷◌, length, map, string_bytes, drop, sym, ap, ◌∙◌, arith}
+use Rattle.std.proofs.Common.{map, string_bytes, drop, sym, ap, ◌∙◌}
 use Rattle.std.proofs.lemmas.List.{take_rest}
-use Rattle.std.specs.Prelude.{option_and_then, slice_index_or}
+use Rattle.std.specs.Prelude.{option_and_then}
 use Rattle.cat_tool.specs.Options as spec
+use Rattle.cat_tool.proofs.Parted.{parted}
 use Rattle.cat_tool.proofs.options.+with_options.Goals as goal
-
--- two words stand before the rest
-parted : {A : Type 0} (f : A → List ℕ) (words : List A) (x y : A) → 2 ≤ length words → x ≡ slice_index_or words 0 x → y ≡ slice_index_or words 1 y
-    → map f words ≡ f x ∷ f y ∷ map f (drop 2 words)
-parted f [] x y long first second = absurd (omega arith)
-parted f (a ∷ []) x y long first second = absurd (omega arith)
-parted f (a ∷ b ∷ words) x y long first second = let p : x ≡ a = first in let q : y ≡ b = second in sym (ap (λ z. f z ∷ f y ∷ map f words) p ∙ ap (λ z. f a ∷ f z ∷ map f words) q)
 
 pub returns-in_ok-with_option-in-len2-up : goal.returns-in_ok-with_option-in-len2-up
 returns-in_ok-with_option-in-len2-up t c =

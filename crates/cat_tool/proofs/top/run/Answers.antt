@@ -13,3 +13,8 @@ pub tell_sample-requires : goal.tell_sample-requires
 tell_sample-requires g c =
     let is : command_of (map string_bytes c.args.words.now) ≡ Some (Sample c.in-Some-Sample.seed c.in-Some-Sample.count) = cc in
     samples_small (map string_bytes c.args.words.now) c.in-Some-Sample.seed c.in-Some-Sample.count is
+
+pub run_stored_serve-requires-clause-crew : goal.run_stored_serve-requires-clause-crew
+run_stored_serve-requires-clause-crew g c κs within =
+    let is : command_of (map string_bytes c.args.words.now) ≡ Some (Serve c.in-Some-Serve.serving) = cc in
+    serves_some (map string_bytes c.args.words.now) c.in-Some-Serve.serving is

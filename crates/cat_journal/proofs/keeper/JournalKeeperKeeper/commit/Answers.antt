@@ -3,13 +3,13 @@ use Rattle.std.specs.Prelude.{is_some, option_map}
 use Rattle.cat_keeper.specs.Store.{applied}
 use Rattle.cat_journal.specs.Batches.{batch_text}
 use Rattle.cat_journal.specs.Keeps.{JournalState, told}
-use Rattle.cat_journal.specs.declared.gate.Put.TheVariants.{Kept, Behind, AtGate}
+use Rattle.cat_journal.specs.declared.gate.Put.TheVariants.{Behind, AtGate}
 use Rattle.cat_journal.proofs.Laws.{text_is_batch}
 use Rattle.cat_journal.proofs.Kept.{kept_tables, unkept_tables}
 use Rattle.cat_keeper.specs.declared.keeper.Committed.TheVariants as committed
 use Rattle.cat_journal.specs.Stands.{IsSafeCommit}
 use Rattle.cat_journal.proofs.Takes.{seen}
-use Rattle.cat_journal.proofs.Standing.{stands_inside, put_kept_commit, put_behind_commit, put_gate_commit, idle_commit, room_commit}
+use Rattle.cat_journal.proofs.Standing.{stands_inside, put_kept_commit, put_behind_commit, put_gate_commit}
 use Rattle.cat_journal.proofs.keeper.JournalKeeperKeeper.commit.Goals as goal
 
 pub put-known-requires-clause-spelled : goal.put-known-requires-clause-spelled

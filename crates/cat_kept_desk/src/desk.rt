@@ -1,0 +1,231 @@
+//! A desk whose catalogue is kept in a store.
+ghost use Rattle.std.specs.Prelude.{◌≡◌, ◌≢◌, ◌<◌, ◌≤◌, ◌++◌, ◌^◌, List, ℕ, false, true};
+ghost use Rattle.cat_desk.specs.Acts.{Acts};
+ghost use Rattle.cat_desk.specs.Asks.{AsksOnce};
+ghost use Rattle.cat_desk.specs.Deed.{deed_of};
+ghost use Rattle.cat_fed.specs.Told.{Tells};
+ghost use Rattle.cat_feed.specs.Feed.{begun};
+ghost use Rattle.cat_io.specs.Causes.{Rose};
+ghost use Rattle.cat_io.specs.Clock.{CountsReading};
+ghost use Rattle.cat_kept_desk.specs.Deeds.{KeptActs, leaves_rows};
+ghost use Rattle.cat_kept_desk.specs.Followed.{IsFollowed};
+ghost use Rattle.cat_tables.specs.Stored.{stored};
+
+use cat_core::catalogue::{Catalogue, Done, Stitched};
+use cat_core::fault::CoreFault;
+use cat_desk::asks::write_ask;
+use cat_desk::command::{Asked, Command, Reply};
+use cat_desk::desk::Desk;
+use cat_desk::timed::act;
+use cat_events::given::serial_of;
+use cat_events::mutation::last_serial;
+use cat_fed::desk::{FeedAnswer, FeedDesk};
+use cat_fed::fed::tell;
+use cat_feed::change::Since;
+use cat_feed::feed::Feed;
+use cat_hold::layers::Layers;
+use cat_io::Clock;
+use cat_keeper::keeper::{Committed, Keeper};
+use cat_query::ask::Ask;
+use cat_store::store::Store;
+use std::alloc::Global;
+
+/// A catalogue with a clock and a feed, and the store that follows it. Its type keeps that a keeper which tells its tables holds those of
+/// the catalogue's state, and that it has counted at least as many faults as there were commands that weren't kept.
+#[derive(Drop)]
+pub struct KeptDesk<L: Layers, C: Clock, K: Keeper> {
+    catalogue: Catalogue<L>,
+    clock: C,
+    feed: Feed,
+    store: Store<K>,
+    // how many commands weren't kept
+    refusals: u64,
+    pub ghost counted: { refusals ≤ K.faults store.keeper },
+    pub ghost followed: { ∥ IsFollowed (K.tables store.place store.keeper) store.orphans store.rows catalogue.settings.orphans catalogue.state ∥₁ },
+}
+
+impl<L: Layers, C: Clock, K: Keeper> KeptDesk<L, C, K> {
+    /// Puts a feed of this epoch that has told nothing, and a clock, beside a catalogue with the store that follows it. It takes no memory.
+    pub fn new(
+        alloc: Global,
+        catalogue: Catalogue<L>,
+        clock: C,
+        epoch: u64,
+        store: Store<K>,
+    ) -> KeptDesk<L, C, K>
+        requires { IsFollowed (K.tables store.place store.keeper) store.orphans store.rows catalogue.settings.orphans catalogue.state }
+        ensures catalogue { result.catalogue ≡ catalogue }
+        ensures clock { result.clock ≡ clock }
+        ensures feed { result.feed ≡ begun epoch }
+        ensures place { result.store.place ≡ store.place }
+        ensures refusals { result.refusals ≡ 0 }
+    {
+        KeptDesk {
+            catalogue,
+            clock,
+            feed: Feed::new(alloc, epoch),
+            store,
+            refusals: 0,
+        }
+    }
+}
+
+impl<L: Layers + Drop, C: Clock + Drop, K: Keeper> KeptDesk<L, C, K> {
+    /// The store. Where its keeper tells its tables, these are those of the catalogue's state. It has counted at least as many faults as there
+    /// were commands that weren't kept.
+    pub fn into_store(self) -> Store<K>
+        ensures store { result ≡ self.store }
+        ensures faults { self.refusals ≤ K.faults result.keeper }
+        ensures followed { ∥ IsFollowed (K.tables result.place result.keeper) result.orphans result.rows self.catalogue.settings.orphans self.catalogue.state ∥₁ }
+    {
+        self.store
+    }
+}
+
+// Whether a command leaves the stored rows as they are.
+fn leaves_rows<L: Layers>(
+    catalogue: &Catalogue<L>,
+    command: &Command<Done<'_, L>, Stitched<'_, L>>,
+) -> bool
+    ensures { result ≡ leaves_rows (deed_of command.now) catalogue.now.state }
+{
+    match command {
+        Command::Mutate(provider, mutation) => {
+            serial_of(mutation) <= last_serial(catalogue.view(), provider)
+        }
+        Command::ShelfDrop(name) => catalogue.view().shelf.get(name).is_none(),
+        Command::Forget(reference) => catalogue.number_of(reference).is_none(),
+        Command::ForgetNumber(number) => catalogue.ref_at(*number).is_none(),
+        Command::Refresh(_) | Command::Take | Command::TakeStitch(_) | Command::PutStitch(_) =>
+            true,
+        Command::ShelfPut(..) | Command::Finish(_) | Command::Settle => false,
+    }
+}
+
+// Does what a command says that leaves the stored rows as they are.
+fn pass<L: Layers>(
+    alloc: Global,
+    catalogue: &mut Catalogue<L>,
+    command: &Command<Done<'_, L>, Stitched<'_, L>>,
+    now: u64,
+) -> Reply
+    requires now { now < 2 ^ 53 }
+    requires leaves { leaves_rows (deed_of command.now) catalogue.old.state ≡ true }
+    ensures acts { Acts L.rules now (deed_of command.now) catalogue.old catalogue.new result }
+    ensures never { result ≢ Reply.Refused CoreFault.Keeper }
+    ensures rows { stored catalogue.old.settings.orphans catalogue.new.state ≡ stored catalogue.old.settings.orphans catalogue.old.state }
+{
+    let _state = catalogue.view();
+    act(alloc, catalogue, command, now)
+}
+
+// Does what a command says, and has the store follow. Where the keeper fails, which is counted, or memory lacks, all is as before.
+fn follow<L: Layers, K: Keeper>(
+    alloc: Global,
+    catalogue: &mut Catalogue<L>,
+    store: &mut Store<K>,
+    refusals: &mut u64,
+    command: &Command<Done<'_, L>, Stitched<'_, L>>,
+    now: u64,
+) -> Reply
+    requires now { now < 2 ^ 53 }
+    requires changes { leaves_rows (deed_of command.now) catalogue.old.state ≡ false }
+    requires followed { ∥ IsFollowed (K.tables store.old.place store.old.keeper) store.old.orphans store.old.rows catalogue.old.settings.orphans catalogue.old.state ∥₁ }
+    ensures acts { KeptActs L.rules now (deed_of command.now) catalogue.old catalogue.new refusals.old refusals.new result }
+    ensures counts { refusals.old ≤ K.faults store.old.keeper → refusals.new ≤ K.faults store.new.keeper }
+    ensures cause { result ≡ Reply.Refused CoreFault.Keeper → Rose (K.faults store.old.keeper) (K.faults store.new.keeper) }
+    ensures followed { ∥ IsFollowed (K.tables store.new.place store.new.keeper) store.new.orphans store.new.rows catalogue.new.settings.orphans catalogue.new.state ∥₁ }
+    ensures place { store.new.place ≡ store.old.place }
+    ensures later { K.faults store.old.keeper ≤ K.faults store.new.keeper }
+{
+    let Ok(saved) = catalogue.saved(alloc) else {
+        return Reply::Refused(CoreFault::NoMemory);
+    };
+    let reply = act(alloc, catalogue, command, now);
+    match store.follow(alloc, catalogue.view()) {
+        Committed::Kept => reply,
+        Committed::Failed => {
+            catalogue.put_back(saved);
+            *refusals = refusals.saturating_add(1);
+            Reply::Refused(CoreFault::Keeper)
+        }
+        Committed::NoMemory => {
+            catalogue.put_back(saved);
+            Reply::Refused(CoreFault::NoMemory)
+        }
+    }
+}
+
+impl<L: Layers, C: Clock, K: Keeper> KeptDesk<L, C, K> {
+    /// Does what a command says, which stays with the caller, and answers it with the moment at which it came. The keeper's fault comes only
+    /// where the keeper's count of faults rose in this call.
+    pub fn act_at(
+        &mut self,
+        alloc: Global,
+        command: &Command<Done<'_, L>, Stitched<'_, L>>,
+    ) -> (u64, Reply)
+        ensures moment { result.0 ≡ C.moment self.new.clock }
+        ensures acts { KeptActs L.rules (C.moment self.new.clock) (deed_of command.now) self.old.catalogue self.new.catalogue self.old.refusals self.new.refusals result.1 }
+        ensures reads { CountsReading (C.readings self.old.clock) (C.readings self.new.clock) }
+        ensures ticks { C.ticks self.old.clock self.new.clock }
+        ensures feed { self.new.feed ≡ self.old.feed }
+        ensures place { self.new.store.place ≡ self.old.store.place }
+        ensures later { K.faults self.old.store.keeper ≤ K.faults self.new.store.keeper }
+        ensures cause { result.1 ≡ Reply.Refused CoreFault.Keeper → Rose (K.faults self.old.store.keeper) (K.faults self.new.store.keeper) }
+    {
+        let now = self.clock.now();
+        if leaves_rows(&self.catalogue, command) {
+            return (now, pass(alloc, &mut self.catalogue, command, now));
+        }
+        let reply = follow(
+            alloc,
+            &mut self.catalogue,
+            &mut self.store,
+            &mut self.refusals,
+            command,
+            now,
+        );
+        (now, reply)
+    }
+}
+
+impl<'a, L: Layers, C: Clock, K: Keeper> Desk<Done<'a, L>, Stitched<'a, L>> for KeptDesk<L, C, K> {
+    ghost order = { λ done. done.order.now };
+
+    ghost stitch_order = { λ stitched. stitched.order.now };
+
+    ghost acts = { λ old d new reply. (KeptActs L.rules (C.moment new.clock) d old.catalogue new.catalogue old.refusals new.refusals reply × (CountsReading (C.readings old.clock) (C.readings new.clock) × C.ticks old.clock new.clock)) × ((new.feed ≡ old.feed) × (new.store.place ≡ old.store.place)) };
+
+    ghost asks = { λ old ask new asked text. (AsksOnce (C.moment new.clock) (C.readings old.clock) (C.readings new.clock) ask old.catalogue new.catalogue asked text × C.ticks old.clock new.clock) × ((new.feed ≡ old.feed) × ((new.store.place ≡ old.store.place) × (new.refusals ≡ old.refusals))) };
+
+    fn act(&mut self, alloc: Global, command: Command<Done<'a, L>, Stitched<'a, L>>) -> Reply
+        ensures acts { (KeptActs L.rules (C.moment self.new.clock) (deed_of command.entry) self.old.catalogue self.new.catalogue self.old.refusals self.new.refusals result × (CountsReading (C.readings self.old.clock) (C.readings self.new.clock) × C.ticks self.old.clock self.new.clock)) × ((self.new.feed ≡ self.old.feed) × (self.new.store.place ≡ self.old.store.place)) }
+        ensures later { K.faults self.old.store.keeper ≤ K.faults self.new.store.keeper }
+    {
+        self.act_at(alloc, &command).1
+    }
+
+    fn ask(&mut self, alloc: Global, ask: &Ask, out: &mut Vec<u8>) -> Asked
+        ensures answer { (text : List ℕ) × (out.new.items ≡ out.old.items ++ text)
+            × ((AsksOnce (C.moment self.new.clock) (C.readings self.old.clock) (C.readings self.new.clock) ask.now self.old.catalogue self.new.catalogue result text × C.ticks self.old.clock self.new.clock) × ((self.new.feed ≡ self.old.feed) × ((self.new.store.place ≡ self.old.store.place) × (self.new.refusals ≡ self.old.refusals)))) }
+        ensures same { result ≢ Asked.Written → out.new.items ≡ out.old.items }
+        ensures store { self.new.store ≡ self.old.store }
+    {
+        let now = self.clock.now();
+        write_ask(alloc, &self.catalogue, ask, now, out)
+    }
+}
+
+impl<'a, L: Layers, C: Clock, K: Keeper> FeedDesk<Done<'a, L>, Stitched<'a, L>>
+    for KeptDesk<L, C, K> {
+    ghost tells = { λ old since new told text. Tells old.catalogue.state.documents since old.feed new.feed told text × ((new.catalogue ≡ old.catalogue) × ((new.clock ≡ old.clock) × ((new.store.place ≡ old.store.place) × (new.refusals ≡ old.refusals)))) };
+
+    fn changes(&mut self, alloc: Global, since: Option<Since>, out: &mut Vec<u8>) -> FeedAnswer
+        ensures answer { (text : List ℕ) × (out.new.items ≡ out.old.items ++ text)
+            × (Tells self.old.catalogue.state.documents since self.old.feed self.new.feed result text × ((self.new.catalogue ≡ self.old.catalogue) × ((self.new.clock ≡ self.old.clock) × ((self.new.store.place ≡ self.old.store.place) × (self.new.refusals ≡ self.old.refusals))))) }
+        ensures same { result ≢ FeedAnswer.Written → out.new.items ≡ out.old.items }
+        ensures store { self.new.store ≡ self.old.store }
+    {
+        tell(alloc, &mut self.feed, self.catalogue.docs(), since, out)
+    }
+}

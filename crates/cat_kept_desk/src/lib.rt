@@ -1,0 +1,13 @@
+//! A desk whose catalogue is kept in a store.
+//!
+//! What a command changes of what is stored is committed as one batch before it is answered; a command whose change the keeper refuses is
+//! answered `CoreFault::Keeper`, it is counted, and the catalogue is as before it. A settle is one change. What leaves the stored rows as they are
+//! asks nothing of the keeper.
+//!
+//! It stands on cat_desk for what a command does, on cat_fed for the feed, and on cat_store for the store. It carries the promise that between two
+//! commands a keeper that tells its tables holds those of the catalogue's state, and that the keeper's fault is answered only where it counted one.
+#![tactic(auto)]
+
+pub mod desk;
+
+pub use desk::KeptDesk;

@@ -1,0 +1,105 @@
+//! The rows of one store, in both versions.
+use cat_keeper::keeper::{Keeper, Loaded, Place};
+use cat_keeper::rows::{Batch, Change, StoredRows};
+use cat_keeper::table::Table;
+use cat_layers::layered::Layered;
+use cat_store::open::{Opened, open};
+use cat_table::map::Map;
+use cat_transcript::settings::INPUT_LIMIT;
+use cat_tree::text::Text;
+use std::alloc::{AllocError, Global};
+
+/// A row: its table, its key and its value.
+pub type Row = (Table, &'static str, &'static str);
+
+/// A store of the first version, in which a provider gave one Component.
+pub const FIRST: [Row; 5] = [
+    (Table::Counters, "arrival", "2"),
+    (Table::Counters, "number", "2"),
+    (Table::Providers, "git", "{\"serial\":1}"),
+    (
+        Table::Items,
+        "git component:default/web",
+        "{\"arrival\":1,\"key\":\"provider:git\",\"tree\":{\"apiVersion\":\"backstage.io/v1alpha1\",\"kind\":\"Component\",\"metadata\":{\"name\":\"web\"},\"spec\":{\"lifecycle\":\"production\",\"owner\":\"a\",\"type\":\"service\"}}}",
+    ),
+    (
+        Table::Records,
+        "component:default/web",
+        "{\"holder\":1,\"issues\":[],\"number\":1,\"output\":null}",
+    ),
+];
+
+/// The same store in the second version.
+pub const SECOND: [Row; 7] = [
+    (Table::Counters, "arrival", "2"),
+    (Table::Counters, "number", "2"),
+    (Table::Providers, "git", "{\"serial\":1}"),
+    (
+        Table::Items,
+        "git component:default/web",
+        "{\"arrival\":1,\"key\":\"provider:git\"}",
+    ),
+    (
+        Table::Records,
+        "component:default/web",
+        "{\"holder\":1,\"issues\":[],\"number\":1,\"output\":null}",
+    ),
+    (
+        Table::Settings,
+        "store",
+        "{\"orphans\":\"keep\",\"version\":2}",
+    ),
+    (
+        Table::Trees,
+        "0000000000000001",
+        "{\"apiVersion\":\"backstage.io/v1alpha1\",\"kind\":\"Component\",\"metadata\":{\"name\":\"web\"},\"spec\":{\"lifecycle\":\"production\",\"owner\":\"a\",\"type\":\"service\"}}",
+    ),
+];
+
+/// What puts these rows.
+pub fn batch_of(alloc: Global, rows: &[Row]) -> Result<Batch, AllocError> {
+    let mut batch = Map::new();
+    for (table, key, value) in rows.iter() {
+        let key = (*table, Text::of(alloc, key)?);
+        batch.put(alloc, key, Change::Put(Text::of(alloc, value)?))?;
+    }
+    Ok(batch)
+}
+
+/// Whether these are just the given rows, in their order.
+pub fn same(rows: &StoredRows, wanted: &[Row]) -> bool {
+    if rows.len() != wanted.len() {
+        return false;
+    }
+    for (row, (table, key, value)) in rows.iter().zip(wanted.iter()) {
+        if row.0.0 != *table || row.0.1.as_str() != *key || row.1.as_str() != *value {
+            return false;
+        }
+    }
+    true
+}
+
+/// Whether a keeper gives just these rows.
+pub fn gives<K: Keeper>(alloc: Global, keeper: &mut K, wanted: &[Row]) -> bool {
+    match keeper.load(alloc, &Place::Nowhere) {
+        Loaded::Rows(rows) => same(&rows, wanted),
+        Loaded::Failed | Loaded::NoMemory => false,
+    }
+}
+
+/// The keeper of a store that was opened.
+pub fn keeper_of<K: Keeper>(opened: Opened<K>) -> K {
+    let store = opened.store;
+    store.keeper
+}
+
+/// Whether the store that a keeper has opens, and has these rows then.
+pub fn opens_as<K: Keeper + Drop>(alloc: Global, keeper: K, wanted: &[Row]) -> bool {
+    match open(alloc, &Layered, keeper, Place::Nowhere, None, INPUT_LIMIT) {
+        Ok(opened) => {
+            let mut keeper = keeper_of(opened);
+            gives(alloc, &mut keeper, wanted)
+        }
+        Err(_) => false,
+    }
+}
