@@ -32,8 +32,9 @@ use Rattle.cat_rows.specs.declared.row.StoredRow.TheVariants.{Counter, Provider,
 use Rattle.cat_tables.specs.First.{all_first, first, first_rows_of}
 use Rattle.cat_tables.specs.Stored.{Emitted, all_rows, emitted, is_blank, offer_in, offer_row, output_in, output_row, pairs_cmp, put_rows, record_in, record_one, record_row, rows_of, rule_of, stored, texts_of}
 use Rattle.cat_tables.specs.declared.version.Version.TheVariants.{One}
-use Rattle.cat_reopened.specs.Told.{AreFirstNarrow, HaveSameFirstTexts, HaveSameTexts, IsPlaced, IsTold}
-use Rattle.cat_reopened.proofs.In.{In, all_in, same_some}
+use Rattle.cat_tables.specs.Told.{AreFirstNarrow, IsTold}
+use Rattle.cat_reopened.specs.Told.{HaveSameFirstTexts, HaveSameTexts, IsPlaced}
+use Rattle.cat_tables.proofs.In.{In, all_in, same_some}
 use Rattle.cat_reopened.proofs.Offers.{IsGiven, emitted_at, given_too}
 use Rattle.cat_reopened.proofs.One.{IsOne, first_apart, first_counter, first_item, first_orphan, first_provider, first_record, first_text, keyed_first, one_first, record_place, what_first}
 use Rattle.cat_reopened.proofs.Parts.{IsLike, IsOffered, is_like, is_offered, offers_are, one_number}

@@ -1,4 +1,3 @@
-pub mod In
 pub mod Texts
 pub mod Values
 pub mod Rows
@@ -11,3 +10,4 @@ pub mod Both
 pub mod Narrow
 pub mod Opening
 pub mod Version
+pub mod Reading

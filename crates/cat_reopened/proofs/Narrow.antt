@@ -26,18 +26,14 @@ use Rattle.cat_rows.specs.declared.row.StoredRow.TheVariants.{Counter, Provider,
 use Rattle.cat_tables.specs.First.{all_first}
 use Rattle.cat_tables.specs.Stored.{Emitted, all_rows, emitted, is_blank, offer_in, output_in, record_row}
 use Rattle.cat_tables.specs.declared.version.Version.TheVariants.{One, Two}
-use Rattle.cat_reopened.specs.Told.{AreFirstNarrow, IsPlaced, IsTold}
+use Rattle.cat_tables.specs.Told.{AreFirstNarrow, IsTold}
+use Rattle.cat_reopened.specs.Told.{IsPlaced}
 use Rattle.cat_reopened.proofs.Both.{firsts_are, no_firsts}
-use Rattle.cat_reopened.proofs.In.{In, all_in}
+use Rattle.cat_tables.proofs.In.{In, all_in, in_all}
 use Rattle.cat_reopened.proofs.One.{IsOne, data_of, what_first}
 use Rattle.cat_reopened.proofs.Parts.{offers_are}
 use Rattle.cat_reopened.proofs.Same.{rows_are}
 use Rattle.cat_reopened.proofs.Views.{has_counter, has_item, has_orphan, has_provider, has_record, has_text, has_tree, next_of}
-
--- what holds of each row holds of all
-in_all : (P : StoredRow → Type 0) (xs : List StoredRow) → ((x : StoredRow) → In x xs → P x) → AllByRecursion P xs
-in_all P [] f = tt
-in_all P (x ∷ xs) f = (f x (inl refl), in_all P xs (λ y h. f y (inr h)))
 
 -- ---- offers that are told apart by their references
 

@@ -19,7 +19,7 @@ use Rattle.cat_model.specs.declared.types.Row.{Row}
 use Rattle.cat_rows.specs.declared.row.StoredOffer.{StoredOffer}
 use Rattle.cat_tables.specs.Stored.{Emitted, emitted, emitted_as, emitted_by, offer_in, pairs_cmp, tree_beside}
 use Rattle.cat_tables.specs.declared.version.Version.{Version}
-use Rattle.cat_reopened.proofs.In.{In, found_in, found_puts, from_flat, in_flat, in_found, none_some, same_some}
+use Rattle.cat_tables.proofs.In.{In, found_in, found_puts, from_flat, in_flat, in_found, none_some, same_some}
 
 pub pairs_total : IsTotalOrder pairs_cmp
 pairs_total = pair_total text_total text_total

@@ -36,8 +36,8 @@ use Rattle.cat_rows.specs.declared.row.StoredRow.TheVariants.{Counter, Provider,
 use Rattle.cat_tables.specs.First.{all_first}
 use Rattle.cat_tables.specs.Stored.{counter_rows, emitted, given_in, item_with, kept_in, orphan_row, output_in, provider_row, put_rows, record_in, record_one, shelf_row, text_in, texts_of}
 use Rattle.cat_tables.specs.declared.version.Version.TheVariants.{One}
-use Rattle.cat_reopened.specs.Told.{IsTold}
-use Rattle.cat_reopened.proofs.In.{In, found_in, from_flat, from_map, in_either, in_left, in_right, same_some}
+use Rattle.cat_tables.specs.Told.{IsTold}
+use Rattle.cat_tables.proofs.In.{In, found_in, from_flat, from_map, in_either, in_left, in_right, same_some}
 use Rattle.cat_reopened.proofs.Rows.{AreApart, AreMet, meets, place}
 use Rattle.cat_reopened.proofs.Texts.{one_text}
 use Rattle.cat_reopened.proofs.Values.{counter_value, item_one_value, one_counter, one_item, record_value}

@@ -30,8 +30,9 @@ use Rattle.cat_tables.specs.Stored.{counter_rows, emitted as emitted_rows, given
 use Rattle.cat_tables.specs.declared.version.Version.{Version}
 use Rattle.cat_tables.specs.declared.version.Version.TheVariants.{One, Two}
 use Rattle.cat_opening.specs.Start.{IsAtStart}
-use Rattle.cat_reopened.specs.Told.{AreDue, IsTold}
-use Rattle.cat_reopened.proofs.In.{found_map}
+use Rattle.cat_tables.specs.Told.{IsTold}
+use Rattle.cat_reopened.specs.Told.{AreDue}
+use Rattle.cat_tables.proofs.In.{found_map}
 use Rattle.cat_reopened.proofs.Same.{AreSame, due_records}
 
 -- ---- records that are due at once

@@ -31,8 +31,8 @@ use Rattle.cat_rows.specs.declared.row.StoredRow.TheVariants.{Counter, Provider,
 use Rattle.cat_tables.specs.Stored.{all_rows, emitted, offer_in, output_in, output_row, pairs_cmp, record_row, rule_of}
 use Rattle.cat_tables.specs.declared.version.Version.{Version}
 use Rattle.cat_tables.specs.declared.version.Version.TheVariants.{Two}
-use Rattle.cat_reopened.specs.Told.{IsTold}
-use Rattle.cat_reopened.proofs.In.{In, none_some, same_some}
+use Rattle.cat_tables.specs.Told.{IsTold}
+use Rattle.cat_tables.proofs.In.{In, none_some, same_some}
 use Rattle.cat_reopened.proofs.Offers.{IsGiven, emitted_at, given_too}
 use Rattle.cat_reopened.proofs.Views.{Is, has_counter, has_item, has_orphan, has_provider, has_record, has_settings, has_text, has_tree, next_of, what_is}
 

@@ -9,7 +9,7 @@ use Rattle.cat_rows.specs.Text.{row_key, row_table}
 use Rattle.cat_rows.specs.declared.row.StoredRow.{StoredRow}
 use Rattle.cat_tables.specs.Stored.{keyed, put_rows, text_in, texts_of}
 use Rattle.cat_tables.proofs.Leading.{row_antisymmetric, row_total}
-use Rattle.cat_reopened.proofs.In.{In, found_in_puts, found_map, found_puts, from_map, from_puts, in_map, none_some, same_some}
+use Rattle.cat_tables.proofs.In.{In, found_in_puts, found_map, found_puts, from_map, from_puts, in_map, none_some, same_some}
 
 -- where a row stands
 abbrev pub place : StoredRow → RowKey

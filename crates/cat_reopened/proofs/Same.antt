@@ -28,8 +28,9 @@ use Rattle.cat_rows.specs.declared.row.StoredRow.{StoredRow}
 use Rattle.cat_rows.specs.declared.row.StoredRow.TheVariants.{Counter}
 use Rattle.cat_tables.specs.Stored.{all_rows, emitted, is_blank, is_keep, output_row, put_rows, rows_of, stored, texts_of}
 use Rattle.cat_tables.specs.declared.version.Version.TheVariants.{Two}
-use Rattle.cat_reopened.specs.Told.{IsPlaced, IsTold}
-use Rattle.cat_reopened.proofs.In.{In, alike, all_in, none_some, same_table}
+use Rattle.cat_tables.specs.Told.{IsTold}
+use Rattle.cat_reopened.specs.Told.{IsPlaced}
+use Rattle.cat_tables.proofs.In.{In, alike, all_in, none_some, same_table}
 use Rattle.cat_reopened.proofs.Offers.{same_listed, same_refs}
 use Rattle.cat_reopened.proofs.Parts.{IsLike, holder_too, is_like, offers_are, orphan_too, provider_too, record_too, row_too, same_next, same_rule, text_too}
 use Rattle.cat_reopened.proofs.Rows.{goes_over, meets}

@@ -14,7 +14,7 @@ use Rattle.cat_tree.specs.Proper.{IsNarrow, ItemsNarrow, MembersNarrow}
 use Rattle.cat_tree.specs.Read.{whole_of}
 use Rattle.cat_tree.specs.Text.{json_items, json_members, json_of, number_of, text_of}
 use Rattle.cat_tree.proofs.Decimals.{IsNumber-signed_wide}
-use Rattle.cat_reopened.proofs.In.{same_some}
+use Rattle.cat_tables.proofs.In.{same_some}
 
 -- ---- tokens
 

@@ -17,7 +17,7 @@ use Rattle.cat_rows.specs.declared.row.StoredRow.TheVariants.{Settings}
 use Rattle.cat_store.specs.Opened.{is_first, is_of_first, is_row_of_first}
 use Rattle.cat_tables.specs.Stored.{Stored, all_rows, is_blank, keyed, put_rows, rule_of, stored, text_in, texts_of}
 use Rattle.cat_tables.proofs.Leading.{row_antisymmetric, row_total}
-use Rattle.cat_reopened.proofs.In.{In, in_map, in_puts, less_is}
+use Rattle.cat_tables.proofs.In.{In, in_map, in_puts, less_is}
 use Rattle.cat_reopened.proofs.Views.{has_settings}
 
 -- the last of these

@@ -32,8 +32,8 @@ use Rattle.cat_rows.specs.declared.row.StoredRow.TheVariants.{Counter, Provider,
 use Rattle.cat_tables.specs.Stored.{all_rows, counter_rows, emitted, given_in, given_rows, item_rows, kept_in, orphan_row, provider_row, put_rows, record_in, record_row, rule_of, shelf_row, text_in, texts_of}
 use Rattle.cat_tables.specs.declared.version.Version.{Version}
 use Rattle.cat_tables.specs.declared.version.Version.TheVariants.{Two}
-use Rattle.cat_reopened.specs.Told.{IsTold}
-use Rattle.cat_reopened.proofs.In.{In, found_in, from_flat, from_map, in_either, in_flat, in_found, in_left, in_map, in_right, none_some, same_some}
+use Rattle.cat_tables.specs.Told.{IsTold}
+use Rattle.cat_tables.proofs.In.{In, found_in, from_flat, from_map, in_either, in_flat, in_found, in_left, in_map, in_right, none_some, same_some}
 use Rattle.cat_reopened.proofs.Rows.{AreApart, AreMet, meets, place}
 use Rattle.cat_reopened.proofs.Texts.{one_text}
 use Rattle.cat_reopened.proofs.Values.{counter_value, item_value, one_arrival, one_counter, one_item, orphan_value, provider_value, record_value, rule_value, text_value}

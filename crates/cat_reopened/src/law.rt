@@ -1,5 +1,6 @@
 //! What the rows of a state tell of it.
 ghost use Rattle.std.specs.Prelude.{◌≡◌};
+ghost use Rattle.cat_keeper.specs.Store.{Rows};
 ghost use Rattle.cat_model.specs.Catalogue.{Rules};
 ghost use Rattle.cat_model.specs.Formed.{FormRules, Formed};
 ghost use Rattle.cat_model.specs.Sound.{Sound};
@@ -13,7 +14,8 @@ ghost use Rattle.cat_tables.specs.Stored.{stored, tables, texts_of};
 ghost use Rattle.cat_tree.specs.Data.{Data};
 ghost use Rattle.cat_tree.specs.Proper.{IsNarrow};
 ghost use Rattle.cat_tree.specs.Text.{text_of};
-ghost use Rattle.cat_reopened.specs.Told.{AreDue, AreFirstNarrow, AreNarrow, HaveSameFirstTexts, HaveSameTexts, IsPlaced, IsReopened, IsTold};
+ghost use Rattle.cat_tables.specs.Told.{AreFirstNarrow, AreNarrow, IsTold};
+ghost use Rattle.cat_reopened.specs.Told.{AreDue, HaveSameFirstTexts, HaveSameTexts, IsPlaced, IsReopened, OpensAs};
 
 /// The compact text of a tree whose numbers have 64 bits is that of no other such tree.
 pub fn texts_tell_trees()
@@ -45,6 +47,12 @@ pub fn stores_reopen()
     ensures opens { (rules : Rules) (rule other : OrphanRule) (m n : State) → IsTold m → IsTold n → IsPlaced m → IsReopened rules n → HaveSameTexts rule m other n → n ≡ reopened rules m }
     ensures read { (rules : Rules) (rule : OrphanRule) (m n : State) → IsTold m → IsTold n → IsPlaced m → IsReopened rules n → IsRead (tables rule m) n → n ≡ reopened rules m }
     ensures read_first { (rules : Rules) (m n : State) → IsTold m → IsTold n → IsPlaced m → AreFirstNarrow n → IsReopened rules n → IsRead (texts_of (first m)) n → n ≡ reopened rules m }
+{}
+
+/// What is promised of a state that a store opens as (`cat_store::open`: `tells`, `tells_first`, `again`, `read`) makes it what the store's state opens again
+/// as, in either version.
+pub fn what_is_read_opens()
+    ensures { (rules : Rules) (rows : Rows) (n : State) → IsTold n → AreFirstNarrow n → IsReopened rules n → IsRead rows n → OpensAs rules rows n }
 {}
 
 /// Rows tell an empty catalogue, and each sound state whose parts have their forms and whose numbers have 64 bits. Where they do, and each row has a

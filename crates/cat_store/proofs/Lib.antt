@@ -1,2 +1,6 @@
+pub mod Again
+pub mod Narrowness
+pub mod Opening
+pub mod Telling
 pub mod Told
 pub mod Unstored

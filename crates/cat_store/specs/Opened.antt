@@ -7,6 +7,7 @@ use Rattle.cat_keeper.specs.Store.{RowKey, Rows}
 use Rattle.cat_keeper.specs.declared.table.Table.{Table}
 use Rattle.cat_keeper.specs.declared.table.Table.TheVariants.{Counters, Providers, Items, Shelf, Records, Orphans, Settings, Trees}
 use Rattle.cat_model.specs.declared.types.OrphanRule.{OrphanRule}
+use Rattle.cat_model.specs.declared.types.OrphanRule.TheVariants.{Keep}
 use Rattle.cat_model.specs.declared.types.State.{State}
 use Rattle.cat_tables.specs.First.{first}
 use Rattle.cat_tables.specs.Stored.{Stored, stored, texts_of}
@@ -39,3 +40,7 @@ rows_in false rule m = stored rule m
 -- rows were read to a state: they are those of that state in the version that they are of, in the second under some rule for orphans
 abbrev pub IsRead : Rows → State → Type 0
 IsRead rows m = (rule : OrphanRule) × (texts_of (rows_in (is_first rows) rule m) ≡ rows)
+
+-- the rows name this rule for orphans: they are those of the state under it; a store of the first version, which names none, stands under the one that keeps
+abbrev pub HasRule : Rows → OrphanRule → State → Type 0
+HasRule rows rule m = (texts_of (rows_in (is_first rows) rule m) ≡ rows) × (is_first rows ≡ true → rule ≡ Keep)

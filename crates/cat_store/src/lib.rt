@@ -3,11 +3,15 @@
 //! A `Store` has the rows of the state that it follows, so that what a change reaches is told by comparing rows, and only rows that
 //! differ are written. A commit is one batch; where it is refused the rows are as before. A store is opened by reading its rows
 //! (cat_opening), testing what was read (cat_sound), and comparing the rows of that state with those that were read (cat_tables), so
-//! that nobody has to believe the reading.
+//! that nobody has to believe the reading. Whether the state is in order, with numbers of 64 bits alone, is tested beside, so that what
+//! its rows tell of it (cat_reopened) can be applied to whatever opens.
 //!
 //! It stands on cat_keeper for keepers, and on the three crates named. It carries the promise that a keeper which tells its tables
-//! holds those of the state that was last followed, and that a store of the second version opens as a state whose rows it has.
+//! holds those of the state that was last followed, and that a store of either version opens as a state whose rows it has, which those
+//! rows tell, and which opens again as itself.
 #![tactic(auto)]
 
+mod narrow;
 pub mod open;
 pub mod store;
+mod tells;

@@ -1,15 +1,19 @@
 //! Opening a store.
-ghost use Rattle.std.specs.Prelude.{◌≡◌, ◌≢◌, ◌≤◌, IfErr, IfOk, IfSome, Option, option_map};
-ghost use Rattle.std.specs.declared.option.Option.TheVariants.{None};
+ghost use Rattle.std.specs.Prelude.{◌≡◌, ◌≢◌, ◌≤◌, true, IfErr, IfOk, IfSome, Option, option_map};
+ghost use Rattle.std.specs.declared.option.Option.TheVariants.{None, Some};
 ghost use Rattle.cat_events.specs.Coming.{IsSteady};
 ghost use Rattle.cat_io.specs.Causes.{Rose};
 ghost use Rattle.cat_keeper.specs.Answers.{Are, Stays};
 ghost use Rattle.cat_keeper.specs.Store.{applied};
 ghost use Rattle.cat_model.specs.Sound.{AreBegun};
-ghost use Rattle.cat_store.specs.Opened.{IsRead, is_first, is_of_first, is_row_of_first, rows_in};
+ghost use Rattle.cat_model.specs.Step.{reopened};
+ghost use Rattle.cat_store.specs.Opened.{HasRule, IsRead, is_first, is_of_first, is_row_of_first, rows_in};
+ghost use Rattle.cat_store.specs.Tells.{is_telling};
 ghost use Rattle.cat_tables.specs.Stored.{stored, texts_of};
+ghost use Rattle.cat_tables.specs.Told.{AreFirstNarrow, IsTold};
 
 use crate::store::{Store, commit};
+use crate::tells::is_telling;
 use cat_hold::layers::Layers;
 use cat_keeper::keeper::{Committed, Keeper, Loaded, Place};
 use cat_keeper::rows::{Batch, StoredRows};
@@ -18,7 +22,7 @@ use cat_links::links::Links;
 use cat_model::types::{OrphanRule, State};
 use cat_opening::candidate::candidate;
 use cat_opening::types::OpenFault as Unread;
-use cat_sound::reopen::opened;
+use cat_sound::reopen::{Opening, opened};
 use cat_table::listing::Copied;
 use cat_tables::batch::batch_to;
 use cat_tables::first::first_rows;
@@ -126,6 +130,13 @@ fn rows_in(
     }
 }
 
+// The rule for orphans of a store, where this one was found among its rows: the first version has none, and keeps.
+fn stored_rule(is_first: bool, found: OrphanRule) -> OrphanRule
+    ensures { is_first ≡ true → result ≡ OrphanRule.Keep }
+{
+    if is_first { OrphanRule::Keep } else { found }
+}
+
 // The refusal of a store whose rows aren't those of the state that was read, in the version that they are of.
 fn checked(
     alloc: Global,
@@ -133,13 +144,42 @@ fn checked(
     orphans: OrphanRule,
     state: &State,
 ) -> Result<(), Unread>
-    ensures { IfOk result (λ _. IsRead rows.now state.now) }
+    ensures { IfOk result (λ _. texts_of (rows_in (is_first rows.now) orphans state.now) ≡ rows.now) }
 {
     let wanted = rows_in(alloc, is_first(rows), orphans, state)?;
     match differing(alloc, rows, &wanted)? {
         None => Ok(()),
         Some(fault) => Err(fault),
     }
+}
+
+// What was opened, where its rows tell its state.
+fn telling(found: Option<Opening>) -> Option<Opening>
+    ensures same { IfSome result (λ x. found ≡ Some x) }
+    ensures tells { IfSome result (λ x. is_telling x.state ≡ true) }
+{
+    let opening = found?;
+    if is_telling(&opening.state) {
+        Some(opening)
+    } else {
+        None
+    }
+}
+
+// The state that a candidate opens as, where it is one and its rows tell it.
+fn told<L: Layers>(
+    alloc: Global,
+    layers: &L,
+    candidate: State,
+) -> Result<Option<Opening>, AllocError>
+    ensures steady { IfOk result (λ o. IfSome o (λ x. IsSteady L.rules x.links x.state)) }
+    ensures begun { IfOk result (λ o. IfSome o (λ x. AreBegun x.state)) }
+    ensures tells { IfOk result (λ o. IfSome o (λ x. IsTold x.state)) }
+    ensures tells_first { IfOk result (λ o. IfSome o (λ x. AreFirstNarrow x.state)) }
+    ensures again { IfOk result (λ o. IfSome o (λ x. reopened L.rules x.state ≡ x.state)) }
+{
+    let found = opened(alloc, layers, candidate)?;
+    Ok(telling(found))
 }
 
 // Reads rows, under this rule for orphans or else the stored one.
@@ -152,17 +192,22 @@ fn read<L: Layers>(
 ) -> Result<Reading, Unread>
     ensures steady { IfOk result (λ x. IsSteady L.rules x.links x.state) }
     ensures begun { IfOk result (λ x. AreBegun x.state) }
+    ensures tells { IfOk result (λ x. IsTold x.state) }
+    ensures tells_first { IfOk result (λ x. AreFirstNarrow x.state) }
+    ensures again { IfOk result (λ x. reopened L.rules x.state ≡ x.state) }
     ensures read { IfOk result (λ x. IsRead rows.now x.state) }
     ensures rule { IfOk result (λ x. IfSome orphans (λ rule. x.orphans ≡ rule)) }
+    ensures kept { IfOk result (λ x. orphans ≡ None → HasRule rows.now x.orphans x.state) }
     ensures rows { IfOk result (λ x. x.rows ≡ stored x.orphans x.state) }
     ensures batch { IfOk result (λ x. applied x.batch rows.now ≡ texts_of x.rows) }
 {
     let found = candidate(alloc, rows, input_limit)?;
-    let Some(opening) = opened(alloc, layers, found.state)? else {
+    let Some(opening) = told(alloc, layers, found.state)? else {
         return Err(Unread::Row(Table::Counters, Text::of(alloc, "arrival")?));
     };
-    checked(alloc, rows, found.rule, &opening.state)?;
-    let orphans = orphans.unwrap_or(found.rule);
+    let stored = stored_rule(is_first(rows), found.rule);
+    checked(alloc, rows, stored, &opening.state)?;
+    let orphans = orphans.unwrap_or(stored);
     let wanted = stored_rows(alloc, orphans, &opening.state)?;
     let batch = batch_to(alloc, rows, &wanted)?;
     Ok(Reading {
@@ -177,6 +222,7 @@ fn read<L: Layers>(
 /// Opens the store that a keeper has for a place, under this rule for orphans, or else under the stored one, which is `Keep` where none
 /// is. `input_limit` is the limit on the stored input bytes. All records are due at once, nothing is leased or marked, and each document is
 /// that of its parts. A store of the first version is brought to the second, and another rule than the stored one is stored, by one commit.
+/// The state is one that its rows tell, in either version, and opens again as itself.
 ///
 /// `Keeper` comes only where the keeper's count of faults rose in this call. After an error the keeper's tables are as before.
 pub fn open<L: Layers, K: Keeper>(
@@ -189,8 +235,12 @@ pub fn open<L: Layers, K: Keeper>(
 ) -> Result<Opened<K>, (OpenFault, K)>
     ensures steady { IfOk result (λ x. IsSteady L.rules x.links x.state) }
     ensures begun { IfOk result (λ x. AreBegun x.state) }
+    ensures tells { IfOk result (λ x. IsTold x.state) }
+    ensures tells_first { IfOk result (λ x. AreFirstNarrow x.state) }
+    ensures again { IfOk result (λ x. reopened L.rules x.state ≡ x.state) }
     ensures read { IfOk result (λ x. IfSome (K.tables place keeper) (λ rows. IsRead rows x.state)) }
     ensures rule { IfOk result (λ x. IfSome orphans (λ rule. x.store.orphans ≡ rule)) }
+    ensures kept { IfOk result (λ x. orphans ≡ None → IfSome (K.tables place keeper) (λ rows. HasRule rows x.store.orphans x.state)) }
     ensures rows { IfOk result (λ x. x.store.rows ≡ stored x.store.orphans x.state) }
     ensures told { IfOk result (λ x. Are (K.tables x.store.place x.store.keeper) (texts_of x.store.rows)) }
     ensures place { IfOk result (λ x. x.store.place ≡ place) }

@@ -1,3 +1,4 @@
+pub mod In
 pub mod Leading
 pub mod Putting
 pub mod Sames

@@ -1,3 +1,4 @@
 pub mod Stored
 pub mod First
 pub mod Walk
+pub mod Told

@@ -7,8 +7,8 @@ use Rattle.cat_model.specs.Step.{start}
 use Rattle.cat_model.specs.declared.types.Origin.{Origin}
 use Rattle.cat_model.specs.declared.types.Origin.TheVariants.{Provider, Entity}
 use Rattle.cat_model.specs.declared.types.OrphanRule.TheVariants.{Keep, Delete}
-use Rattle.cat_reopened.specs.Told.{AreNarrow, IsTold}
-use Rattle.cat_reopened.proofs.In.{none_some}
+use Rattle.cat_tables.specs.Told.{AreNarrow, IsTold}
+use Rattle.cat_tables.proofs.In.{none_some}
 use Rattle.cat_reopened.proofs.Narrow.{firsts_narrow}
 use Rattle.cat_reopened.proofs.law.sound_states_are_told.Goals as goal
 

@@ -4,7 +4,10 @@ use Rattle.std.specs.Prelude.{IfSome}
 use Rattle.cat_keeper.specs.Answers.{Are}
 use Rattle.cat_layers.specs.Layered.{layered}
 use Rattle.cat_model.specs.Sound.{Sound}
-use Rattle.cat_store.specs.Opened.{IsRead}
+use Rattle.cat_core.specs.declared.ledger.Ledger.{Ledger}
+use Rattle.cat_reopened.proofs.Reading.{told_opens}
+use Rattle.cat_reopened.specs.Told.{OpensAs}
+use Rattle.cat_store.specs.Opened.{HasRule, IsRead}
 use Rattle.cat_tables.specs.Stored.{stored, texts_of}
 use Rattle.cat_transcript.specs.Program.{program_settings}
 use Rattle.cat_stored.proofs.stored.run_stored_connection.Goals as goal
@@ -26,7 +29,10 @@ returns-in-Ok-clause-kept g c =
         place_is = is.place ∙ e.place;
         none_refused = is.refusals;
         rule_is = subst (λ o. IfSome c.args.orphans (λ r. o ≡ r)) (sym (ap (λ l. l.settings.orphans) is.catalogue)) e.rule;
+        rule_kept = λ none. subst (λ (l : Ledger). IfSome (g.K.Keeper.tables c.args.place c.args.keeper) (λ rows. HasRule rows l.settings.orphans l.state)) (sym is.catalogue) (e.kept none);
         read = subst (λ m. IfSome (g.K.Keeper.tables c.args.place c.args.keeper) (λ rows. IsRead rows m)) state e.read;
+        opens = subst (λ m. IfSome (g.K.Keeper.tables c.args.place c.args.keeper) (λ rows. OpensAs layered rows m)) state
+            (told_opens layered c.in-Ok.opened.state e.tells e.tells_first e.again (g.K.Keeper.tables c.args.place c.args.keeper) e.read);
         sound = subst (Sound layered) state e.steady.sound;
       };
       ran = (c.kept_connection-end.result, c.from.ensures, c.kept_connection-end.ensures.outcome, c.kept_connection-end.ensures.transcript);

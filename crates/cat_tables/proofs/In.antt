@@ -5,7 +5,7 @@ use Rattle.std.specs.declared.option.Option.TheVariants.{None, Some}
 use Rattle.std.specs.Cmp.{IsTotalOrder}
 use Rattle.std.specs.FinMap.{IsAntisymmetric}
 use Rattle.std.specs.FinMap.Entries.{below_all, find-put, is_sorted, same_entries}
-use Rattle.std.specs.List.{AllByRecursion, flat_map}
+use Rattle.std.specs.List.{AllByRecursion, flat_map, list_all}
 use Rattle.std.specs.Option.{option_map}
 use Rattle.std.specs.Ordering.{eq_by_cmp, is_eq, is_lt, ordering_reverse}
 use Rattle.cat_table.specs.Table.{find, put, puts}
@@ -62,6 +62,16 @@ pub all_in : {A : Type 0} (P : A → Type 0) (xs : List A) → AllByRecursion P 
 all_in P [] h x g = absurd g
 all_in P (y ∷ xs) h x (inl e) = subst P (sym e) h.0
 all_in P (y ∷ xs) h x (inr g) = all_in P xs h.1 x g
+
+pub in_all : {A : Type 0} (P : A → Type 0) (xs : List A) → ((x : A) → In x xs → P x) → AllByRecursion P xs
+in_all P [] f = tt
+in_all P (x ∷ xs) f = (f x (inl refl), in_all P xs (λ y h. f y (inr h)))
+
+-- what stands in a list passes, where all of it does
+pub in_passes : {A : Type 0} (p : A → Bool) (xs : List A) → list_all p xs ≡ true → (x : A) → In x xs → p x ≡ true
+in_passes p [] h x g = absurd g
+in_passes p (y ∷ xs) h x (inl e) = ap p e ∙ and_first (p y) _ h
+in_passes p (y ∷ xs) h x (inr g) = in_passes p xs (and_second (p y) _ h) x g
 
 -- ---- options
 

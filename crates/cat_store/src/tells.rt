@@ -1,0 +1,122 @@
+//! Whether a state is in order and its numbers have 64 bits, so that its rows tell it. Nothing here takes memory.
+ghost use Rattle.std.specs.Prelude.{◌≡◌, ◌^◌, ◌&&◌, nat_lt};
+ghost use Rattle.std.specs.FinMap.Entries.{is_sorted};
+ghost use Rattle.std.specs.List.{list_all};
+ghost use Rattle.cat_table.specs.Table.{text_cmp};
+ghost use Rattle.cat_store.specs.Narrow.{is_narrow};
+ghost use Rattle.cat_store.specs.Tells as spec;
+
+use crate::narrow::is_narrow;
+use cat_model::types::{Orphan, ProviderInputs, Record, Row, State};
+use cat_ref::reference::Ref;
+use cat_table::map::rise;
+use cat_tree::text::Text;
+use cat_types::input::Offered;
+use cat_types::work::Output;
+
+// A serial has 64 bits by its type.
+fn is_right_provider(serial: u64, inputs: &ProviderInputs) -> bool
+    ensures { result ≡ (nat_lt serial (2 ^ 64) && is_sorted text_cmp inputs.now.items) }
+{
+    rise(inputs.items.as_slice())
+}
+
+fn are_right_providers(providers: &[(Text, ProviderInputs)]) -> bool
+    ensures { result ≡ list_all spec.is_right_provider providers.now }
+{
+    for (_, inputs) in providers {
+        if !is_right_provider(inputs.serial, inputs) {
+            return false;
+        }
+    }
+    true
+}
+
+fn is_narrow_row(arrival: u64, row: &Row) -> bool
+    ensures { result ≡ spec.is_narrow_row (arrival, row.now) }
+{
+    is_narrow(row.offered.tree.tree())
+}
+
+fn are_narrow_rows(rows: &[(u64, Row)]) -> bool
+    ensures { result ≡ list_all spec.is_narrow_row rows.now }
+{
+    for (arrival, row) in rows {
+        if !is_narrow_row(*arrival, row) {
+            return false;
+        }
+    }
+    true
+}
+
+fn are_narrow_offers(offers: &[(Ref, Offered)]) -> bool
+    ensures { result ≡ list_all spec.is_narrow_offer offers.now }
+{
+    for (_, offered) in offers {
+        if !is_narrow(offered.tree.tree()) {
+            return false;
+        }
+    }
+    true
+}
+
+fn is_narrow_output(output: &Option<Output>) -> bool
+    ensures { result ≡ spec.is_narrow_output output.now }
+{
+    match output {
+        None => true,
+        Some(output) => {
+            is_narrow(output.entity.tree()) && are_narrow_offers(output.offers.as_slice())
+        }
+    }
+}
+
+// The number of a record has 64 bits by its type.
+fn is_narrow_record(number: u64, output: &Option<Output>) -> bool
+    ensures { result ≡ (nat_lt number (2 ^ 64) && spec.is_narrow_output output.now) }
+{
+    is_narrow_output(output)
+}
+
+fn are_narrow_records(records: &[(Ref, Record)]) -> bool
+    ensures { result ≡ list_all spec.is_narrow_record records.now }
+{
+    for (_, kept) in records {
+        if !is_narrow_record(kept.number, &kept.output) {
+            return false;
+        }
+    }
+    true
+}
+
+// The number of an orphan has 64 bits by its type.
+fn is_narrow_orphan(number: u64, orphan: &Orphan) -> bool
+    ensures { result ≡ (nat_lt number (2 ^ 64) && is_narrow orphan.now.entity) }
+{
+    is_narrow(orphan.entity.tree())
+}
+
+fn are_narrow_orphans(orphans: &[(Ref, Orphan)]) -> bool
+    ensures { result ≡ list_all spec.is_narrow_orphan orphans.now }
+{
+    for (_, orphan) in orphans {
+        if !is_narrow_orphan(orphan.number, orphan) {
+            return false;
+        }
+    }
+    true
+}
+
+/// Whether the providers of a state, their items and the shelf are in order, and the numbers of all that it keeps have 64 bits. Of a
+/// state that is sound, the rows tell it then.
+#[tactic(auto, unfolding(crate::specs::Tells::is_telling))]
+pub(crate) fn is_telling(m: &State) -> bool
+    ensures { result ≡ spec.is_telling m.now }
+{
+    rise(m.providers.as_slice())
+        && rise(m.shelf.as_slice())
+        && are_right_providers(m.providers.as_slice())
+        && are_narrow_rows(m.rows.as_slice())
+        && are_narrow_records(m.records.as_slice())
+        && are_narrow_orphans(m.orphans.as_slice())
+}
