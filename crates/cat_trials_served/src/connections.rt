@@ -2,9 +2,13 @@
 use cat_doors::{Accepted, Connection, Doors, Listened};
 use cat_ends::Status;
 use cat_io::{FixedClock, MemorySink, MemorySource, ReadAnswer, Sink, Source, WriteAnswer};
+use cat_keeper::keeper::{Committed, Keeper, Loaded, Place};
 use cat_keeper::memory::MemoryKeeper;
+use cat_keeper::rows::Batch;
+use cat_keeper::table::Table;
 use cat_table::map::Map;
 use cat_tool::run;
+use std::alloc::Global;
 use std::sync::atomic::{AtomicBool, AtomicU64, Ordering};
 use std::test::Fail;
 use std::thread::yield_now;
@@ -42,6 +46,8 @@ struct Scene {
     met: AtomicU64,
     /// Whether the Component was answered.
     found: AtomicBool,
+    /// Whether its item was kept.
+    kept: AtomicBool,
 }
 
 impl Scene {
@@ -142,6 +148,52 @@ impl<'a> Connection for Talk<'a> {
     }
 }
 
+/// A keeper in memory that tells when the item of the Component is kept.
+#[derive(Drop)]
+struct Watched<'a> {
+    keeper: MemoryKeeper,
+    scene: &'a Scene,
+}
+
+// Whether a batch has the item of the Component.
+fn has_item(batch: &Batch) -> bool {
+    for at in 0..batch.len() {
+        if let Some(((table, key), _)) = batch.at(at) {
+            if *table == Table::Items && key.as_str() == "git component:default/web" {
+                return true;
+            }
+        }
+    }
+    false
+}
+
+impl<'a> Keeper for Watched<'a> {
+    ghost use Rattle.std.specs.Prelude.{None};
+
+    ghost tables = { λ _ _. None };
+
+    ghost faults = { λ _. 0 };
+
+    fn load(&mut self, alloc: Global, place: &Place) -> Loaded {
+        match self.keeper.load(alloc, place) {
+            Loaded::Rows(rows) => Loaded::Rows(rows),
+            Loaded::Failed | Loaded::NoMemory => Loaded::NoMemory,
+        }
+    }
+
+    fn commit(&mut self, alloc: Global, batch: &Batch) -> Committed {
+        match self.keeper.commit(alloc, batch) {
+            Committed::Kept => {
+                if has_item(batch) {
+                    self.scene.kept.store(true, Ordering::SeqCst);
+                }
+                Committed::Kept
+            }
+            Committed::Failed | Committed::NoMemory => Committed::NoMemory,
+        }
+    }
+}
+
 /// Lets so many connections in, of which the last one sends nothing.
 #[derive(Drop)]
 struct Porch<'a> {
@@ -194,6 +246,7 @@ fn a_connection_hears_what_workers_make(rt: HostRuntime) -> Result<(), Fail> {
         came: AtomicU64::new(0),
         met: AtomicU64::new(0),
         found: AtomicBool::new(false),
+        kept: AtomicBool::new(false),
     };
     let mut source = MemorySource::new(Vec::new(alloc), 1, Vec::new(alloc));
     let mut sink = MemorySink::new(1, Vec::new(alloc));
@@ -201,7 +254,10 @@ fn a_connection_hears_what_workers_make(rt: HostRuntime) -> Result<(), Fail> {
         scene: &scene,
         left: 2,
     };
-    let keeper = MemoryKeeper::new(Map::new(), Vec::new(alloc));
+    let keeper = Watched {
+        keeper: MemoryKeeper::new(Map::new(), Vec::new(alloc)),
+        scene: &scene,
+    };
     let ended = run(
         &rt,
         alloc,
@@ -215,5 +271,6 @@ fn a_connection_hears_what_workers_make(rt: HostRuntime) -> Result<(), Fail> {
     assert_eq!(rt; ended.status, Status(0));
     assert_eq!(rt; scene.met.load(Ordering::SeqCst), 2);
     assert!(rt; scene.found.load(Ordering::SeqCst));
+    assert!(rt; scene.kept.load(Ordering::SeqCst));
     Ok(())
 }
