@@ -69,4 +69,5 @@ def main():
     session.close()
     print(f'   100 Locations in a chain {given:7.2f} {first:10.2f} {"":21} {"":10}   {settled}')
 
-main()
+if __name__ == '__main__':
+    main()

@@ -1,6 +1,10 @@
 pub mod Calls
+pub mod Empty
 pub mod Firsts
+pub mod Marks
 pub mod Mutated
+pub mod Nearest
+pub mod Numbers
 pub mod Settles
 pub mod Soonest
 pub mod Steadies

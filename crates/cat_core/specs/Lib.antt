@@ -1,5 +1,7 @@
+pub mod Above
 pub mod Answer
 pub mod Kept
 pub mod Least
+pub mod Numbered
 pub mod Soonest
 pub mod Waits

@@ -3,6 +3,7 @@ ghost use Rattle.std.specs.Prelude.{◌≡◌, cond, IfOk, IsTrue, Option, optio
 ghost use Rattle.std.specs.declared.option.Option.TheVariants.{Some};
 ghost use Rattle.std.specs.FinMap.Entries.{is_sorted};
 ghost use Rattle.cat_table.specs.Table.{text_cmp};
+ghost use Rattle.cat_core.specs.Numbered.{AreApart};
 ghost use Rattle.cat_core.specs.Soonest.{sooner, soonest};
 ghost use Rattle.cat_model.specs.Step.{is_free, may_take, next_taken, ref_at};
 ghost use Rattle.cat_model.specs.Step.Event.{ForgetNumber};
@@ -20,6 +21,7 @@ use std::alloc::{AllocError, Global};
 
 // A copy of the reference of a record or an orphan with this number.
 fn known_copy(alloc: Global, m: &State, number: u64) -> Result<Option<Ref>, AllocError>
+    requires { AreApart m.now }
     ensures { IfOk result (λ r. r ≡ ref_at m.now number) }
 {
     match with_number(m, number) {

@@ -1,10 +1,14 @@
 //! What is asked of a state.
-ghost use Rattle.std.specs.Prelude.{◌≡◌, ◌≤◌, ◌&&◌, IfOk, ℕ, List, Option, Bool, length, option_map};
-ghost use Rattle.cat_table.specs.Table.{get, keys};
+ghost use Rattle.std.specs.Prelude.{◌≡◌, ◌≤◌, ◌&&◌, cond, nat_lt, IfOk, IsTrue, ℕ, List, Option, Bool, length, option_map};
+ghost use Rattle.std.specs.declared.option.Option.TheVariants.{Some};
+ghost use Rattle.std.specs.FinMap.Entries.{is_sorted};
+ghost use Rattle.std.specs.List.{filter};
+ghost use Rattle.cat_table.specs.Table.{get, keys, text_cmp};
 ghost use Rattle.cat_frame.specs.Linked.{AreLinked, AreRecorded};
+ghost use Rattle.cat_core.specs.Above.{least_above, lesser_ticket};
 ghost use Rattle.cat_model.specs.Catalogue.{holding};
-ghost use Rattle.cat_model.specs.Reply.{is_leased, is_live, is_quiet, issues_at, leased_refs, mark_above, next_mark, next_stitch, placed, resting, state_counts};
-ghost use Rattle.cat_model.specs.Settle.{due_refs, is_due, is_empty, stitch_order};
+ghost use Rattle.cat_model.specs.Reply.{is_leased, is_live, is_quiet, issues_at, next_mark, next_stitch, placed, resting, state_counts};
+ghost use Rattle.cat_model.specs.Settle.{is_due, is_empty, stitch_order};
 ghost use Rattle.cat_model.specs.Sound.{its_number};
 
 use cat_events::done::Stitched;
@@ -15,16 +19,16 @@ use cat_links::links::Links;
 use cat_model::types::{Lease, Placed, Record, State, StateCounts, StitchOrder};
 use cat_ref::reference::Ref;
 use cat_settle::order::due;
-use cat_settle::stitches::sorted_marks;
 use cat_table::listing::{Copied, Listing};
 use cat_types::issue::Issue;
 use std::alloc::{AllocError, Global};
 
-fn none_due(m: &State, now: u64) -> bool
-    ensures { result ≡ is_empty (due_refs now m.now) }
+// Whether none of these entries has a record that is due.
+fn none_due(records: &[(Ref, Record)], now: u64) -> bool
+    ensures { result ≡ is_empty (keys (filter (λ e. is_due now (Some e.1)) records.now)) }
 {
-    for (reference, _) in m.records.as_slice() {
-        if due(now, m.records.get(reference)) {
+    for (_, kept) in records {
+        if due(now, Some(kept)) {
             return false;
         }
     }
@@ -32,18 +36,20 @@ fn none_due(m: &State, now: u64) -> bool
 }
 
 /// Whether no record is due at this moment and no reference is marked.
-pub fn is_quiet(m: &State, now: u64) -> bool
+pub(crate) fn is_quiet(m: &State, now: u64) -> bool
+    requires { IsTrue (is_sorted text_cmp m.now.records) }
     ensures { result ≡ is_quiet m.now now }
 {
-    none_due(m, now) && m.marks.len() == 0
+    none_due(m.records.as_slice(), now) && m.marks.len() == 0
 }
 
-fn count_due(m: &State, now: u64) -> u64
-    ensures { result ≡ length (due_refs now m.now) }
+// How many of these entries have a record that is due.
+fn count_due(records: &[(Ref, Record)], now: u64) -> u64
+    ensures { result ≡ length (filter (λ e. is_due now (Some e.1)) records.now) }
 {
     let mut count = 0;
-    for (reference, _) in m.records.as_slice() {
-        if due(now, m.records.get(reference)) {
+    for (_, kept) in records {
+        if due(now, Some(kept)) {
             count += 1;
         }
     }
@@ -59,21 +65,13 @@ fn live(now: u64, lease: &Option<Lease>) -> bool
     }
 }
 
-fn leased(now: u64, kept: Option<&Record>) -> bool
-    ensures { result ≡ is_leased now (option_map (λ x. x.now) kept.entry) }
-{
-    match kept {
-        None => false,
-        Some(kept) => live(now, &kept.lease),
-    }
-}
-
-fn count_leased(m: &State, now: u64) -> u64
-    ensures { result ≡ length (leased_refs now m.now) }
+// How many of these entries have a record with a live lease.
+fn count_leased(records: &[(Ref, Record)], now: u64) -> u64
+    ensures { result ≡ length (filter (λ e. is_leased now (Some e.1)) records.now) }
 {
     let mut count = 0;
-    for (reference, _) in m.records.as_slice() {
-        if leased(now, m.records.get(reference)) {
+    for (_, kept) in records {
+        if live(now, &kept.lease) {
             count += 1;
         }
     }
@@ -81,11 +79,12 @@ fn count_leased(m: &State, now: u64) -> u64
 }
 
 /// How many records, orphans, due records, live leases and marks there are.
-pub fn counts_of(m: &State, now: u64) -> StateCounts
+pub(crate) fn counts_of(m: &State, now: u64) -> StateCounts
+    requires { IsTrue (is_sorted text_cmp m.now.records) }
     ensures { result ≡ state_counts m.now now }
 {
-    let due = count_due(m, now);
-    let leased = count_leased(m, now);
+    let due = count_due(m.records.as_slice(), now);
+    let leased = count_leased(m.records.as_slice(), now);
     StateCounts {
         records: m.records.len() as u64,
         orphans: m.orphans.len() as u64,
@@ -131,16 +130,49 @@ pub fn issues_of<'a>(m: &'a State, reference: &Ref) -> Option<&'a Listing<Issue>
     }
 }
 
-// The first of these marks with a ticket above.
-fn first_above(marks: &[(Ref, u64)], after: u64) -> Option<&(Ref, u64)>
-    ensures { option_map (λ x. x.now) result ≡ mark_above after marks.now }
+// The one of two marks with the lesser ticket, the first of them where they are equal.
+fn lesser_ticket<'a>(mark: &'a (Ref, u64), best: Option<&'a (Ref, u64)>) -> &'a (Ref, u64)
+    ensures { Some result.now ≡ lesser_ticket mark.now (option_map (λ e. e.now) best.entry) }
 {
-    for mark in marks {
-        if after < mark.1 {
-            return Some(mark);
-        }
+    match best {
+        None => mark,
+        Some(best) => { if mark.1 <= best.1 { mark } else { best } }
     }
-    None
+}
+
+// The one of two marks with the lesser ticket, of which the first counts only if its ticket is above.
+fn lesser_above<'a>(
+    after: u64,
+    mark: &'a (Ref, u64),
+    best: Option<&'a (Ref, u64)>,
+) -> Option<&'a (Ref, u64)>
+    ensures { option_map (λ e. e.now) result ≡ cond (nat_lt after mark.now.1) (lesser_ticket mark.now (option_map (λ e. e.now) best.entry)) (option_map (λ e. e.now) best.entry) }
+{
+    if after < mark.1 {
+        Some(lesser_ticket(mark, best))
+    } else {
+        best
+    }
+}
+
+// Of marks in any order, the one with the least ticket above.
+fn least_above(marks: &[(Ref, u64)], after: u64) -> Option<&(Ref, u64)>
+    ensures { option_map (λ e. e.now) result ≡ least_above after marks.now }
+{
+    let mut best = None;
+    let mut left = marks.len();
+    while left > 0 {
+        left -= 1;
+        best = lesser_above(after, &marks[left], best);
+    }
+    best
+}
+
+// The mark with the least ticket above.
+fn next_mark(m: &State, after: u64) -> Option<&(Ref, u64)>
+    ensures { option_map (λ e. e.now) result ≡ next_mark m.now after }
+{
+    least_above(m.marks.as_slice(), after)
 }
 
 /// The order of the mark with the least ticket above, with the parts of its reference.
@@ -155,8 +187,7 @@ pub fn stitch_after<L: Layers>(
     requires recorded { AreRecorded m.now }
     ensures { IfOk result (λ o. o ≡ next_stitch L.rules m.now after) }
 {
-    let sorted = sorted_marks(alloc, &m.marks)?;
-    match first_above(sorted.as_slice(), after) {
+    match next_mark(m, after) {
         None => Ok(None),
         Some(mark) => {
             let parts = present_parts(alloc, layers, links, m, &mark.0)?;

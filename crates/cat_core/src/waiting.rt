@@ -1,10 +1,12 @@
 //! The rows that wait, one by one and without memory.
-ghost use Rattle.std.specs.Prelude.{◌≡◌, ◌&&◌, Option, is_some, option_map, option_and_then, slice_get};
+ghost use Rattle.std.specs.Prelude.{◌≡◌, ◌&&◌, IsTrue, Option, is_some, option_map, option_and_then, slice_get};
 ghost use Rattle.std.specs.declared.option.Option.TheVariants.{None, Some};
+ghost use Rattle.std.specs.FinMap.Entries.{is_sorted};
+ghost use Rattle.std.specs.Ordering.{nat_cmp};
 ghost use Rattle.cat_model.specs.Catalogue.{row_at};
 ghost use Rattle.cat_model.specs.Reply.{place_cmp, waiting, waits};
 ghost use Rattle.cat_core.specs.Least.{nearer};
-ghost use Rattle.cat_core.specs.Waits.{is_above, next_waiting, place_of, waits_at};
+ghost use Rattle.cat_core.specs.Waits.{is_above, nearest, next_waiting, place_of, waits_at};
 
 use cat_model::types::{Row, State};
 use cat_table::key::Key;
@@ -41,10 +43,20 @@ fn is_above(after: Option<&(u64, Row)>, row: &(u64, Row)) -> bool
     }
 }
 
-fn comes_after(m: &State, after: Option<&(u64, Row)>, row: &(u64, Row)) -> bool
-    ensures { result ≡ (is_some (waits_at m.now (place_of row.now)) && is_above place_cmp (option_map (λ e. place_of e.now) after.entry) (place_of row.now)) }
+// Whether a row doesn't hold its reference.
+fn is_waiting(m: &State, row: &(u64, Row)) -> bool
+    ensures { result ≡ is_some (waits m.now row.now.0 (Some row.now.1)) }
 {
-    waits(m, row.0).is_some() && is_above(after, row)
+    match m.holders.get(&row.1.reference) {
+        Some(holder) => *holder != row.0,
+        None => true,
+    }
+}
+
+fn comes_after(m: &State, after: Option<&(u64, Row)>, row: &(u64, Row)) -> bool
+    ensures { result ≡ (is_above place_cmp (option_map (λ e. place_of e.now) after.entry) (place_of row.now) && is_some (waits m.now row.now.0 (Some row.now.1))) }
+{
+    is_above(after, row) && is_waiting(m, row)
 }
 
 // The one of two rows with the lesser place; the first counts only where it passes.
@@ -70,11 +82,14 @@ fn nearer<'a>(
     }
 }
 
-// The next row that waits, or the first.
-fn next_waiting<'a>(m: &'a State, after: Option<&(u64, Row)>) -> Option<&'a (u64, Row)>
-    ensures { option_map (λ e. place_of e.now) result ≡ next_waiting m.now (option_map (λ e. place_of e.now) after.entry) }
+// Of these rows, the next that waits, or the first.
+fn nearest<'a>(
+    m: &State,
+    rows: &'a [(u64, Row)],
+    after: Option<&(u64, Row)>,
+) -> Option<&'a (u64, Row)>
+    ensures { option_map (λ e. place_of e.now) result ≡ nearest m.now (option_map (λ e. place_of e.now) after.entry) rows.now }
 {
-    let rows = m.rows.as_slice();
     let mut best = None;
     let mut left = rows.len();
     while left > 0 {
@@ -85,7 +100,16 @@ fn next_waiting<'a>(m: &'a State, after: Option<&(u64, Row)>) -> Option<&'a (u64
     best
 }
 
+// The next row that waits, or the first.
+fn next_waiting<'a>(m: &'a State, after: Option<&(u64, Row)>) -> Option<&'a (u64, Row)>
+    requires { IsTrue (is_sorted nat_cmp m.now.rows) }
+    ensures { option_map (λ e. place_of e.now) result ≡ next_waiting m.now (option_map (λ e. place_of e.now) after.entry) }
+{
+    nearest(m, m.rows.as_slice(), after)
+}
+
 fn next_after<'a>(m: &'a State, found: Option<&'a (u64, Row)>) -> Option<&'a (u64, Row)>
+    requires { IsTrue (is_sorted nat_cmp m.now.rows) }
     ensures { option_map (λ e. place_of e.now) result ≡ option_and_then (λ k. next_waiting m.now (Some k)) (option_map (λ e. place_of e.now) found.entry) }
 {
     match found {
@@ -105,7 +129,8 @@ fn row_found<'a>(m: &'a State, found: Option<&'a (u64, Row)>) -> Option<&'a Row>
 
 /// The row at this place, from 0, among those that don't hold their reference, by reference and then by arrival. No memory is
 /// taken, but all rows are gone over once for each place up to this one.
-pub fn waiting_at(m: &State, place: u64) -> Option<&Row>
+pub(crate) fn waiting_at(m: &State, place: u64) -> Option<&Row>
+    requires { IsTrue (is_sorted nat_cmp m.now.rows) }
     ensures { option_map (λ x. x.now) result ≡ option_map (λ e. e.1) (slice_get (waiting m.now) place) }
 {
     let mut found = next_waiting(m, None);

@@ -57,13 +57,3 @@ kept_offers (Some x) = output_offers x.output
 abbrev pub offers_again : Option Record → Outcome → Bool
 offers_again kept (Good output issues) = same_offers (kept_offers kept) output.offers
 offers_again kept (Bad issues) = true
-
--- a state in which a reference has another record, and these marks were put
-abbrev pub alone_state : Ref → Record → Map ℕ → State → State
-alone_state r kept marks m = record (with_record r kept m) { marks = puts text_cmp marks m.marks; ticket = m.ticket + length marks }
-
--- the links after a call: those planned where it acted
-abbrev pub links_after : {E : Type 0} → Result (Option Fault) E → Emitted → Emitted → Emitted
-links_after (Ok None) after before = after
-links_after (Ok (Some fault)) after before = before
-links_after (Err e) after before = before

@@ -12,6 +12,7 @@ use Rattle.cat_model.specs.Catalogue.{Rules}
 use Rattle.cat_model.specs.Sound.{AreOrdered, AreSmall, Sound}
 use Rattle.cat_events.specs.declared.stepped.Step.{Step}
 use Rattle.cat_events.specs.declared.stepped.Step.TheVariants.{Refused as StepRefused, Acts as StepActs}
+use Rattle.cat_events.specs.Planned.{planned}
 use Rattle.cat_events.specs.declared.stepped.Stepped.{Stepped}
 use Rattle.cat_events.specs.declared.stepped.Stepped.TheVariants.{Refused, Acts}
 
@@ -43,17 +44,22 @@ pub record HasCome {E : Type 0} (rules : Rules) (c : Stepped) (answer : Result (
   pub fault : IfOk answer (λ f. f ≡ came_fault c)
   pub steady : IsSteady rules links n
 
--- a step without its links
-abbrev pub seen : Step → Stepped
-seen (StepRefused fault) = Refused fault
-seen (StepActs n plan) = Acts n
+-- a step, as what it makes of the state before it
+abbrev pub seen : Step → State → Stepped
+seen (StepRefused fault) m = Refused fault
+seen (StepActs plan) m = Acts (planned plan m)
 
 -- the links after a step
 abbrev pub links_in : Step → Emitted → Emitted
 links_in (StepRefused fault) links = links
-links_in (StepActs n plan) links = plan.after
+links_in (StepActs plan) links = plan.following.links.after
+
+-- the links after a call that takes a step in; where memory is wanted they are those before it
+abbrev pub links_after : {A E : Type 0} → Result A E → Step → Emitted → Emitted
+links_after (Ok x) o links = links_in o links
+links_after (Err e) o links = links
 
 -- the links after a step are those of its state
-abbrev pub IsLinkedStep : Rules → Step → Type 0
-IsLinkedStep rules (StepRefused fault) = ⊤
-IsLinkedStep rules (StepActs n plan) = AreLinked rules plan.after n
+abbrev pub IsLinkedStep : Rules → Step → State → Type 0
+IsLinkedStep rules (StepRefused fault) m = ⊤
+IsLinkedStep rules (StepActs plan) m = AreLinked rules plan.following.links.after (planned plan m)

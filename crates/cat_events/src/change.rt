@@ -1,38 +1,130 @@
 //! Shelf changes, refreshes and forgets.
-ghost use Rattle.std.specs.Prelude.{◌≡◌, ◌≤◌, ◌^◌, IfOk, Option, Bool, [], is_some, option_map};
+ghost use Rattle.std.specs.Prelude.{◌≡◌, ◌≤◌, ◌^◌, IfOk, IsTrue, Option, Bool, [], is_some, not, option_map};
 ghost use Rattle.std.specs.declared.option.Option.TheVariants.{None, Some};
-ghost use Rattle.cat_table.specs.Table.{first, get, put, text_cmp};
+ghost use Rattle.std.specs.FinMap.Entries.{is_sorted};
+ghost use Rattle.std.specs.List.{filter};
+ghost use Rattle.cat_table.specs.Table.{first, get, keys, put, text_cmp};
+ghost use Rattle.cat_frame.specs.Following.{held_state};
+ghost use Rattle.cat_frame.specs.Linked.{AreLinked};
+ghost use Rattle.cat_model.specs.declared.types.Leaving.TheVariants.{Deleted};
 ghost use Rattle.cat_model.specs.declared.types.Origin.TheVariants.{Entity};
-ghost use Rattle.cat_model.specs.Sound.{AreSmall};
+ghost use Rattle.cat_model.specs.Catalogue.{frame, same_option, work};
 ghost use Rattle.cat_model.specs.Step.{forgotten, replaced, without_key};
 ghost use Rattle.cat_model.specs.Step.Event.{Forget, ShelfDrop, ShelfPut};
+ghost use Rattle.cat_events.specs.Claimed.{IsClaimed};
 ghost use Rattle.cat_events.specs.Coming.{HasCome, IsLinkedStep, IsSteady, seen};
-ghost use Rattle.cat_events.specs.Stepped.{come_to, dropped, is_known, shelved};
+ghost use Rattle.cat_events.specs.Planned.{planned};
+ghost use Rattle.cat_events.specs.Shelf.{reads_other, with_shelf};
+ghost use Rattle.cat_events.specs.Stepped.{come_to, is_known};
 
-use crate::mutation::input_fault;
-use crate::refusal::{unless, unless_spent};
+use crate::claims::{Claimed, reclaimed};
+use crate::plan::{Inputs, OwnChange, Plan, planned};
+use crate::refusal::{input_fault, unless, unless_spent};
 use crate::rows::replaced_rows;
 use crate::stepped::{Step, take_in};
 use crate::without::without;
-use cat_frame::frame::framed;
+use cat_frame::change::Own;
+use cat_hold::build::{Passes, filtered};
+use cat_hold::hold::row_of;
 use cat_hold::layers::Layers;
+use cat_hold::parts::{same_option_work, work_of};
 use cat_links::links::Links;
 use cat_model::types::{Fault, Leaving, Numbered, Origin, Settings, State};
 use cat_ref::reference::Ref;
-use cat_table::listing::Copied;
+use cat_table::listing::{Copied, Listing};
 use cat_tree::text::Text;
 use cat_types::table::Table;
+use cat_types::work::Work;
 use std::alloc::{AllocError, Global};
 
-fn with_text(alloc: Global, name: &Text, text: &Text, m: &State) -> Result<State, AllocError>
-    requires { AreSmall m.now }
-    ensures state { IfOk result (λ n. n ≡ shelved name.now text.now m.now) }
-    ensures number { IfOk result (λ n. n.number ≤ 2 ^ 59) }
-    ensures ticket { IfOk result (λ n. n.ticket ≤ 2 ^ 59) }
+// The shelf with a text.
+fn shelf_with(
+    alloc: Global,
+    name: &Text,
+    text: &Text,
+    m: &State,
+) -> Result<Table<Text, Text>, AllocError>
+    ensures { IfOk result (λ t. t ≡ put text_cmp name.now text.now m.now.shelf) }
 {
-    let mut n = m.duplicate(alloc)?;
-    n.shelf.put(name.duplicate(alloc)?, text.duplicate(alloc)?)?;
-    Ok(n)
+    let mut shelf = m.shelf.duplicate(alloc)?;
+    shelf.put(name.duplicate(alloc)?, text.duplicate(alloc)?)?;
+    Ok(shelf)
+}
+
+// The work of a reference, where this is the shelf.
+fn work_over<L: Layers>(
+    alloc: Global,
+    layers: &L,
+    m: &State,
+    shelf: &Table<Text, Text>,
+    reference: &Ref,
+) -> Result<Option<Work>, AllocError>
+    ensures { IfOk result (λ w. w ≡ work L.rules (held_state shelf.now m.now.rows m.now.holders m.now) reference.now) }
+{
+    match row_of(&m.rows, &m.holders, reference) {
+        None => Ok(None),
+        Some(row) => {
+            let tree = row.offered.tree.duplicate(alloc)?;
+            let contents = layers.contents(alloc, &tree, shelf)?;
+            Ok(Some(Work { tree, contents }))
+        }
+    }
+}
+
+// A reference whose work is another one over another shelf.
+#[derive(Drop)]
+struct ReadsOther<'a, L> {
+    layers: &'a L,
+    m: &'a State,
+    shelf: &'a Table<Text, Text>,
+}
+
+impl<L: Layers> Passes<Ref> for ReadsOther<'_, L> {
+    ghost passes = { λ s r. reads_other L.rules s.shelf.now s.m.now r };
+
+    fn test(&self, alloc: Global, key: &Ref) -> Result<bool, AllocError> {
+        let before = work_of(alloc, self.layers, self.m, key)?;
+        let after = work_over(alloc, self.layers, self.m, self.shelf, key)?;
+        Ok(!same_option_work(self.layers, &before, &after))
+    }
+}
+
+// The held references whose work is another one over another shelf.
+fn readers<L: Layers>(
+    alloc: Global,
+    layers: &L,
+    m: &State,
+    shelf: &Table<Text, Text>,
+) -> Result<Listing<Ref>, AllocError>
+    ensures { IfOk result (λ l. l ≡ filter (reads_other L.rules shelf.now m.now) (keys m.now.holders)) }
+{
+    let all = m.holders.keys(alloc)?;
+    let reads = ReadsOther { layers, m, shelf };
+    filtered(alloc, all.as_slice(), &reads)
+}
+
+// The plan of a change of the shelf.
+fn shelf_plan<L: Layers>(
+    alloc: Global,
+    layers: &L,
+    m: &State,
+    links: &Links,
+    shelf: Table<Text, Text>,
+) -> Result<Plan, AllocError>
+    requires { IsSteady L.rules links.now m.now }
+    ensures state { IfOk result (λ x. planned x m.now ≡ frame L.rules Deleted m.now (with_shelf shelf m.now)) }
+    ensures linked { IfOk result (λ x. AreLinked L.rules x.following.links.after (planned x m.now)) }
+{
+    let touched = readers(alloc, layers, m, &shelf)?;
+    let own = OwnChange {
+        how: Leaving::Deleted,
+        own: None,
+        inputs: Inputs::Shelf(shelf),
+        claims: None,
+        touched,
+    };
+    let plan = planned(alloc, layers, own, m, links)?;
+    Ok(plan)
 }
 
 // What putting a text on the shelf comes to.
@@ -46,26 +138,14 @@ fn shelf_put_step<L: Layers>(
     links: &Links,
 ) -> Result<Step, AllocError>
     requires { IsSteady L.rules links.now m.now }
-    ensures come { IfOk result (λ o. seen o ≡ come_to L.rules settings.now (ShelfPut name.now text.now) m.now) }
-    ensures linked { IfOk result (λ o. IsLinkedStep L.rules o) }
+    ensures come { IfOk result (λ o. seen o m.now ≡ come_to L.rules settings.now (ShelfPut name.now text.now) m.now) }
+    ensures linked { IfOk result (λ o. IsLinkedStep L.rules o m.now) }
 {
-    let n = with_text(alloc, name, text, m)?;
-    let (f, plan) = framed(alloc, layers, Leaving::Deleted, &None, m, links, n)?;
-    let fault = input_fault(alloc, layers, settings, &f)?;
-    let o = unless(fault, f, plan);
+    let shelf = shelf_with(alloc, name, text, m)?;
+    let plan = shelf_plan(alloc, layers, m, links, shelf)?;
+    let fault = input_fault(alloc, layers, settings, &plan, m)?;
+    let o = unless(fault, plan);
     Ok(o)
-}
-
-fn without_text(alloc: Global, name: &Text, m: &State) -> Result<State, AllocError>
-    requires { AreSmall m.now }
-    ensures state { IfOk result (λ n. n ≡ dropped name.now m.now) }
-    ensures number { IfOk result (λ n. n.number ≤ 2 ^ 59) }
-    ensures ticket { IfOk result (λ n. n.ticket ≤ 2 ^ 59) }
-{
-    let shelf = without(alloc, name, &m.shelf)?;
-    let mut n = m.duplicate(alloc)?;
-    n.shelf = shelf;
-    Ok(n)
 }
 
 fn has_name(m: &State, name: &Text) -> bool
@@ -84,13 +164,13 @@ fn shelf_drop_step<L: Layers>(
     links: &Links,
 ) -> Result<Step, AllocError>
     requires { IsSteady L.rules links.now m.now }
-    ensures come { IfOk result (λ o. seen o ≡ come_to L.rules settings.now (ShelfDrop name.now) m.now) }
-    ensures linked { IfOk result (λ o. IsLinkedStep L.rules o) }
+    ensures come { IfOk result (λ o. seen o m.now ≡ come_to L.rules settings.now (ShelfDrop name.now) m.now) }
+    ensures linked { IfOk result (λ o. IsLinkedStep L.rules o m.now) }
 {
     if has_name(m, name) {
-        let n = without_text(alloc, name, m)?;
-        let (f, plan) = framed(alloc, layers, Leaving::Deleted, &None, m, links, n)?;
-        let o = unless_spent(f, plan);
+        let shelf = without(alloc, name, &m.shelf)?;
+        let plan = shelf_plan(alloc, layers, m, links, shelf)?;
+        let o = unless_spent(plan, m);
         Ok(o)
     } else {
         Ok(Step::Refused(Fault::NotFound))
@@ -116,21 +196,43 @@ fn own_rows_dropped(alloc: Global, reference: &Ref, m: &State) -> Result<Numbere
     Ok(numbered)
 }
 
-fn without_ref(alloc: Global, reference: &Ref, m: &State) -> Result<State, AllocError>
-    requires { AreSmall m.now }
-    ensures state { IfOk result (λ n. n ≡ forgotten reference.now m.now) }
-    ensures number { IfOk result (λ n. n.number ≤ 2 ^ 59) }
-    ensures ticket { IfOk result (λ n. n.ticket ≤ 2 ^ 59) }
+// Who holds what once a reference offers nothing.
+fn own_rows_released(alloc: Global, reference: &Ref, m: &State) -> Result<Claimed, AllocError>
+    requires small { m.now.arrival ≤ 2 ^ 59 }
+    requires order { IsTrue (is_sorted text_cmp m.now.holders) }
+    ensures { IfOk result (λ x. IsClaimed x m.now.holders (replaced (Entity reference.now) (λ q. None) [] m.now)) }
 {
-    let records = without(alloc, reference, &m.records)?;
-    let orphans = without(alloc, reference, &m.orphans)?;
     let numbered = own_rows_dropped(alloc, reference, m)?;
-    let mut n = m.duplicate(alloc)?;
-    n.records = records;
-    n.orphans = orphans;
-    n.rows = numbered.rows;
-    n.arrival = numbered.next;
-    Ok(n)
+    let claimed = reclaimed(alloc, &numbered, &m.holders)?;
+    Ok(claimed)
+}
+
+// The plan of a forget.
+fn forget_plan<L: Layers>(
+    alloc: Global,
+    layers: &L,
+    reference: &Ref,
+    m: &State,
+    links: &Links,
+) -> Result<Plan, AllocError>
+    requires { IsSteady L.rules links.now m.now }
+    ensures state { IfOk result (λ x. planned x m.now ≡ frame L.rules Deleted m.now (forgotten reference.now m.now)) }
+    ensures linked { IfOk result (λ x. AreLinked L.rules x.following.links.after (planned x m.now)) }
+{
+    let claimed = own_rows_released(alloc, reference, m)?;
+    let touched = claimed.moved.duplicate(alloc)?;
+    let own = OwnChange {
+        how: Leaving::Deleted,
+        own: Some(Own {
+            reference: reference.duplicate(alloc)?,
+            kept: None,
+        }),
+        inputs: Inputs::Same,
+        claims: Some(claimed),
+        touched,
+    };
+    let plan = planned(alloc, layers, own, m, links)?;
+    Ok(plan)
 }
 
 // What forgetting a reference comes to.
@@ -143,14 +245,12 @@ fn forget_step<L: Layers>(
     links: &Links,
 ) -> Result<Step, AllocError>
     requires { IsSteady L.rules links.now m.now }
-    ensures come { IfOk result (λ o. seen o ≡ come_to L.rules settings.now (Forget reference.now) m.now) }
-    ensures linked { IfOk result (λ o. IsLinkedStep L.rules o) }
+    ensures come { IfOk result (λ o. seen o m.now ≡ come_to L.rules settings.now (Forget reference.now) m.now) }
+    ensures linked { IfOk result (λ o. IsLinkedStep L.rules o m.now) }
 {
     if is_known(m, reference) {
-        let n = without_ref(alloc, reference, m)?;
-        let own = Some(reference.duplicate(alloc)?);
-        let (f, plan) = framed(alloc, layers, Leaving::Deleted, &own, m, links, n)?;
-        let o = unless_spent(f, plan);
+        let plan = forget_plan(alloc, layers, reference, m, links)?;
+        let o = unless_spent(plan, m);
         Ok(o)
     } else {
         Ok(Step::Refused(Fault::NotFound))
@@ -171,7 +271,7 @@ pub fn shelf_put<L: Layers>(
     ensures { HasCome L.rules (come_to L.rules settings.now (ShelfPut name.now text.now) state.old) result state.old state.new links.new }
 {
     let step = shelf_put_step(alloc, layers, settings, name, text, state, links)?;
-    Ok(take_in(step, state, links))
+    take_in(alloc, step, state, links)
 }
 
 /// Drops a text from the shelf, with all that follows.
@@ -187,7 +287,7 @@ pub fn shelf_drop<L: Layers>(
     ensures { HasCome L.rules (come_to L.rules settings.now (ShelfDrop name.now) state.old) result state.old state.new links.new }
 {
     let step = shelf_drop_step(alloc, layers, settings, name, state, links)?;
-    Ok(take_in(step, state, links))
+    take_in(alloc, step, state, links)
 }
 
 /// Forgets a record or an orphan, with all that follows.
@@ -203,5 +303,5 @@ pub fn forget<L: Layers>(
     ensures { HasCome L.rules (come_to L.rules settings.now (Forget reference.now) state.old) result state.old state.new links.new }
 {
     let step = forget_step(alloc, layers, settings, reference, state, links)?;
-    Ok(take_in(step, state, links))
+    take_in(alloc, step, state, links)
 }

@@ -1,28 +1,33 @@
 //! Finishes.
-ghost use Rattle.std.specs.Prelude.{◌≡◌, ◌+◌, ◌<◌, ◌≤◌, ◌^◌, true, IfOk, Option};
+ghost use Rattle.std.specs.Prelude.{◌≡◌, ◌+◌, ◌<◌, ◌≤◌, ◌^◌, true, IfOk, IsTrue, MatchBool, Option};
 ghost use Rattle.std.specs.declared.option.Option.TheVariants.{Some};
-ghost use Rattle.cat_table.specs.Table.{get};
+ghost use Rattle.std.specs.FinMap.Entries.{is_sorted};
+ghost use Rattle.cat_table.specs.Table.{get, text_cmp};
 ghost use Rattle.cat_frame.specs.Linked.{AreLinked};
-ghost use Rattle.cat_model.specs.Catalogue.{changed_refs, frame, tickets};
-ghost use Rattle.cat_model.specs.Sound.{AreSmall};
-ghost use Rattle.cat_model.specs.Step.{finished_record, finished_rows, finished_state, leaving, with_record};
+ghost use Rattle.cat_model.specs.Catalogue.{frame};
+ghost use Rattle.cat_model.specs.Step.{finished_record, finished_rows, finished_state, leaving};
 ghost use Rattle.cat_model.specs.Step.Event.{Finish};
 ghost use Rattle.cat_events.specs.Alone.{is_present_order, offers_again};
+ghost use Rattle.cat_events.specs.Claimed.{IsClaimed};
 ghost use Rattle.cat_events.specs.Coming.{HasCome, IsLinkedStep, IsSteady, seen};
+ghost use Rattle.cat_events.specs.Mutating.{IsFinishing, finishing_alone, offered_refs};
+ghost use Rattle.cat_events.specs.Planned.{planned};
 ghost use Rattle.cat_events.specs.Stepped.{come_to, AreMoments};
 
-use crate::alone::{Alone, applied, offers_again, planned};
+use crate::alone::offers_again;
+use crate::claims::{Claimed, reclaimed, touched};
 use crate::done::Done;
+use crate::plan::{Inputs, OwnChange, Plan, planned};
 use crate::present::present_order;
 use crate::refusal::unless_spent;
 use crate::rows::replaced_rows;
 use crate::stepped::{Step, take_in};
-use cat_frame::frame::framed;
+use cat_frame::change::Own;
 use cat_hold::layers::Layers;
-use cat_links::links::{LinkPlan, Links};
+use cat_links::links::Links;
 use cat_model::types::{Fault, Leaving, Numbered, Origin, OrphanRule, Record, Settings, State};
 use cat_ref::reference::Ref;
-use cat_table::listing::Copied;
+use cat_table::listing::{Copied, Listing};
 use cat_types::work::Outcome;
 use std::alloc::{AllocError, Global};
 
@@ -98,52 +103,91 @@ fn rows_finished(
     }
 }
 
-fn with_finished(
+// The references that a result offers, in order of its offers.
+fn offered_refs(alloc: Global, outcome: &Outcome) -> Result<Listing<Ref>, AllocError>
+    ensures { IfOk result (λ l. l ≡ offered_refs outcome.now) }
+{
+    match outcome {
+        Outcome::Good(output, _) => output.offers.keys(alloc),
+        Outcome::Bad(_) => Ok(Listing::new(alloc)),
+    }
+}
+
+// Who holds what after a result.
+fn claimed_by(
     alloc: Global,
-    settings: &Settings,
     reference: &Ref,
-    now: u64,
+    outcome: &Outcome,
+    m: &State,
+) -> Result<Claimed, AllocError>
+    requires small { m.now.arrival ≤ 2 ^ 59 }
+    requires order { IsTrue (is_sorted text_cmp m.now.holders) }
+    ensures { IfOk result (λ x. IsClaimed x m.now.holders (finished_rows reference.now outcome.now m.now)) }
+{
+    let numbered = rows_finished(alloc, reference, outcome, m)?;
+    let claimed = reclaimed(alloc, &numbered, &m.holders)?;
+    Ok(claimed)
+}
+
+// The own change of a result that replaces rows.
+fn change_of_rows(
+    alloc: Global,
+    how: Leaving,
+    own: Own,
+    outcome: &Outcome,
+    m: &State,
+) -> Result<OwnChange, AllocError>
+    requires small { m.now.arrival ≤ 2 ^ 59 }
+    requires order { IsTrue (is_sorted text_cmp m.now.holders) }
+    ensures { IfOk result (λ x. IsFinishing how own outcome.now m.now x) }
+{
+    let claimed = claimed_by(alloc, &own.reference, outcome, m)?;
+    let offered = offered_refs(alloc, outcome)?;
+    let touched = touched(alloc, &claimed, offered.as_slice())?;
+    Ok(OwnChange {
+        how,
+        own: Some(own),
+        inputs: Inputs::Same,
+        claims: Some(claimed),
+        touched,
+    })
+}
+
+// The own change of a result that offers what was offered, and so leaves all rows as they are.
+fn change_alone(alloc: Global, how: Leaving, own: Own) -> OwnChange
+    ensures { result ≡ finishing_alone how own }
+{
+    OwnChange {
+        how,
+        own: Some(own),
+        inputs: Inputs::Same,
+        claims: None,
+        touched: Listing::new(alloc),
+    }
+}
+
+// The own change of a result.
+fn own_change(
+    alloc: Global,
+    how: Leaving,
+    own: Own,
     kept: &Record,
     outcome: &Outcome,
     m: &State,
-) -> Result<State, AllocError>
-    requires small { AreSmall m.now }
-    requires moments { AreMoments settings.now now }
-    ensures state { IfOk result (λ n. n ≡ with_record reference.now (finished_record settings.now now kept.now outcome.now) m.now) }
-    ensures arrival { IfOk result (λ n. n.arrival ≤ 2 ^ 59) }
-    ensures number { IfOk result (λ n. n.number ≤ 2 ^ 59) }
-    ensures ticket { IfOk result (λ n. n.ticket ≤ 2 ^ 59) }
+) -> Result<OwnChange, AllocError>
+    requires small { m.now.arrival ≤ 2 ^ 59 }
+    requires order { IsTrue (is_sorted text_cmp m.now.holders) }
+    ensures { IfOk result (λ x. MatchBool (offers_again (Some kept.now) outcome.now) (x ≡ finishing_alone how own) (IsFinishing how own outcome.now m.now x)) }
 {
-    let done = record_finished(alloc, settings, now, kept, outcome)?;
-    let mut n = m.duplicate(alloc)?;
-    n.records.put(reference.duplicate(alloc)?, done)?;
-    Ok(n)
+    if offers_again(Some(kept), outcome) {
+        Ok(change_alone(alloc, how, own))
+    } else {
+        change_of_rows(alloc, how, own, outcome, m)
+    }
 }
 
-fn state_finished(
-    alloc: Global,
-    settings: &Settings,
-    reference: &Ref,
-    now: u64,
-    kept: &Record,
-    outcome: &Outcome,
-    m: &State,
-) -> Result<State, AllocError>
-    requires small { AreSmall m.now }
-    requires moments { AreMoments settings.now now }
-    ensures state { IfOk result (λ n. n ≡ finished_state settings.now reference.now now kept.now outcome.now m.now) }
-    ensures number { IfOk result (λ n. n.number ≤ 2 ^ 59) }
-    ensures ticket { IfOk result (λ n. n.ticket ≤ 2 ^ 59) }
-{
-    let mut n = with_finished(alloc, settings, reference, now, kept, outcome, m)?;
-    let numbered = rows_finished(alloc, reference, outcome, &n)?;
-    n.rows = numbered.rows;
-    n.arrival = numbered.next;
-    Ok(n)
-}
-
-// The state after a result, with all that follows.
-fn after_result<L: Layers>(
+// The plan of the finish of the present order.
+fn finish_plan<L: Layers>(
     alloc: Global,
     layers: &L,
     settings: &Settings,
@@ -152,16 +196,21 @@ fn after_result<L: Layers>(
     m: &State,
     links: &Links,
     kept: &Record,
-) -> Result<(State, LinkPlan), AllocError>
+) -> Result<Plan, AllocError>
     requires steady { IsSteady L.rules links.now m.now }
     requires moments { AreMoments settings.now now }
-    ensures state { IfOk result (λ n. n.0 ≡ frame L.rules (leaving settings.now.orphans) m.now (finished_state settings.now done.now.order.now.reference now kept.now (L.rules.result done.now.order.now.work) m.now)) }
-    ensures linked { IfOk result (λ n. AreLinked L.rules n.1.after n.0) }
+    requires there { get m.now.records done.now.order.now.reference ≡ Some kept.now }
+    ensures state { IfOk result (λ x. planned x m.now ≡ frame L.rules (leaving settings.now.orphans) m.now (finished_state settings.now done.now.order.now.reference now kept.now (L.rules.result done.now.order.now.work) m.now)) }
+    ensures linked { IfOk result (λ x. AreLinked L.rules x.following.links.after (planned x m.now)) }
 {
-    let reference = &done.order().reference;
-    let n = state_finished(alloc, settings, reference, now, kept, done.outcome(), m)?;
-    let own = Some(reference.duplicate(alloc)?);
-    framed(alloc, layers, leaving(settings.orphans), &own, m, links, n)
+    let outcome = done.outcome();
+    let own = Own {
+        reference: done.order().reference.duplicate(alloc)?,
+        kept: Some(record_finished(alloc, settings, now, kept, outcome)?),
+    };
+    let change = own_change(alloc, leaving(settings.orphans), own, kept, outcome, m)?;
+    let plan = planned(alloc, layers, change, m, links)?;
+    Ok(plan)
 }
 
 // What the finish of the present order comes to.
@@ -179,65 +228,16 @@ fn finish_step<L: Layers>(
     requires moments { AreMoments settings.now now }
     requires there { get m.now.records done.now.order.now.reference ≡ Some kept.now }
     requires present { is_present_order L.rules m.now done.now.order.now (Some kept.now) ≡ true }
-    ensures come { IfOk result (λ o. seen o ≡ come_to L.rules settings.now (Finish done.now.order.now now) m.now) }
-    ensures linked { IfOk result (λ o. IsLinkedStep L.rules o) }
+    ensures come { IfOk result (λ o. seen o m.now ≡ come_to L.rules settings.now (Finish done.now.order.now now) m.now) }
+    ensures linked { IfOk result (λ o. IsLinkedStep L.rules o m.now) }
 {
-    let (n, plan) = after_result(alloc, layers, settings, done, now, m, links, kept)?;
-    let o = unless_spent(n, plan);
+    let plan = finish_plan(alloc, layers, settings, done, now, m, links, kept)?;
+    let o = unless_spent(plan, m);
     Ok(o)
 }
 
-// What it comes to that a record has the result of its order.
-fn kept_finished<L: Layers>(
-    alloc: Global,
-    layers: &L,
-    settings: &Settings,
-    done: &Done<'_, L>,
-    now: u64,
-    m: &State,
-    links: &Links,
-    kept: &Record,
-) -> Result<Alone, AllocError>
-    requires steady { IsSteady L.rules links.now m.now }
-    requires moments { AreMoments settings.now now }
-    requires there { get m.now.records done.now.order.now.reference ≡ Some kept.now }
-    ensures kept { IfOk result (λ x. x.kept ≡ finished_record settings.now now kept.now (L.rules.result done.now.order.now.work)) }
-    ensures marks { IfOk result (λ x. x.marks.items ≡ tickets m.now.ticket (changed_refs L.rules m.now (with_record done.now.order.now.reference x.kept m.now))) }
-    ensures linked { IfOk result (λ x. AreLinked L.rules x.plan.after (with_record done.now.order.now.reference x.kept m.now)) }
-{
-    let after = record_finished(alloc, settings, now, kept, done.outcome())?;
-    let alone = planned(alloc, layers, &done.order().reference, after, m, links)?;
-    Ok(alone)
-}
-
-// Takes in the result of the present order, where it offers what was offered, and so leaves all rows as they are.
-fn finish_alone<L: Layers>(
-    alloc: Global,
-    layers: &L,
-    settings: &Settings,
-    done: &Done<'_, L>,
-    now: u64,
-    state: &mut State,
-    links: &mut Links,
-) -> Result<Option<Fault>, AllocError>
-    requires steady { IsSteady L.rules links.old state.old }
-    requires moments { AreMoments settings.now now }
-    requires present { is_present_order L.rules state.old done.now.order.now (get state.old.records done.now.order.now.reference) ≡ true }
-    requires offers { offers_again (get state.old.records done.now.order.now.reference) (L.rules.result done.now.order.now.work) ≡ true }
-    ensures { HasCome L.rules (come_to L.rules settings.now (Finish done.now.order.now now) state.old) result state.old state.new links.new }
-{
-    let reference = &done.order().reference;
-    match state.records.get(reference) {
-        None => Ok(None),
-        Some(kept) => {
-            let alone = kept_finished(alloc, layers, settings, done, now, state, links, kept)?;
-            applied(reference, alone, state, links)
-        }
-    }
-}
-
 // Takes in the result of the present order.
-fn finish_whole<L: Layers>(
+fn finish_present<L: Layers>(
     alloc: Global,
     layers: &L,
     settings: &Settings,
@@ -255,7 +255,7 @@ fn finish_whole<L: Layers>(
         None => Ok(None),
         Some(kept) => {
             let step = finish_step(alloc, layers, settings, done, now, state, links, kept)?;
-            Ok(take_in(step, state, links))
+            take_in(alloc, step, state, links)
         }
     }
 }
@@ -274,13 +274,9 @@ pub fn finish<L: Layers>(
     requires moments { AreMoments settings.now now }
     ensures { HasCome L.rules (come_to L.rules settings.now (Finish done.now.order.now now) state.old) result state.old state.new links.new }
 {
-    let order = done.order();
-    if !present_order(alloc, layers, order, state)? {
-        return Ok(None);
-    }
-    if offers_again(state.records.get(&order.reference), done.outcome()) {
-        finish_alone(alloc, layers, settings, done, now, state, links)
+    if present_order(alloc, layers, done.order(), state)? {
+        finish_present(alloc, layers, settings, done, now, state, links)
     } else {
-        finish_whole(alloc, layers, settings, done, now, state, links)
+        Ok(None)
     }
 }

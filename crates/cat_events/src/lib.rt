@@ -3,19 +3,22 @@
 //! It stands on cat_frame. Each event is one function that makes of a state and its links what the event comes to, which is
 //! the step of the abstract catalogue, exactly, or answers the refusal; where memory runs out, nothing has changed.
 //!
-//! Takes, refreshes and stitches change their state in place: they search their record, document or mark, and copy what they
-//! store. A result that offers what was offered before, as most do, changes its record, its links and marks in place too.
-//! What changes rows makes a new state, and takes the logarithm of their number for each.
+//! An event that may reach many references is planned first: its plan asks only what the event reaches, and has all that differs after
+//! it. Then the room that the plan wants is taken, and from there on nothing can fail. Takes, refreshes and stitches change one entry
+//! where it stands. What may change who holds what still looks at all rows.
 #![tactic(auto)]
 
 pub mod alone;
+mod apply;
 pub mod change;
+pub mod claims;
 pub mod done;
 pub mod finish;
 pub mod given;
 pub mod items;
 pub mod lease;
 pub mod mutation;
+pub mod plan;
 pub mod present;
 pub mod refusal;
 pub mod rows;

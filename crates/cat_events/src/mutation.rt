@@ -1,25 +1,32 @@
 //! Mutations.
-ghost use Rattle.std.specs.Prelude.{◌≡◌, ◌<◌, ◌≤◌, ◌^◌, IfOk, Option};
-ghost use Rattle.cat_table.specs.Table.{get};
+ghost use Rattle.std.specs.Prelude.{◌≡◌, ◌<◌, ◌≤◌, ◌^◌, ◌++◌, IfOk, IsTrue, Option};
+ghost use Rattle.std.specs.FinMap.Entries.{is_sorted};
+ghost use Rattle.cat_table.specs.Table.{get, keys, put, text_cmp};
 ghost use Rattle.cat_model.specs.declared.types.Leaving.TheVariants.{Deleted};
+ghost use Rattle.cat_model.specs.declared.types.Origin.TheVariants.{Provider};
 ghost use Rattle.cat_model.specs.Catalogue.{frame};
-ghost use Rattle.cat_model.specs.Sound.{AreSmall};
-ghost use Rattle.cat_model.specs.Step.{mutated_state, or_else, source_at, spent};
+ghost use Rattle.cat_model.specs.Step.{items_after, mutated_state, replaced, source_at};
 ghost use Rattle.cat_model.specs.Step.Event.{Mutate};
 ghost use Rattle.cat_frame.specs.Linked.{AreLinked};
+ghost use Rattle.cat_events.specs.Claimed.{IsClaimed};
 ghost use Rattle.cat_events.specs.Coming.{HasCome, IsLinkedStep, IsSteady, seen};
-ghost use Rattle.cat_events.specs.Stepped.{come_to, over_limit};
+ghost use Rattle.cat_events.specs.Planned.{planned};
+ghost use Rattle.cat_events.specs.Mutating.{IsMutating};
+ghost use Rattle.cat_events.specs.Stepped.{come_to};
 
+use crate::claims::{Claimed, reclaimed, touched};
 use crate::items::next_items;
-use crate::refusal::{spent_of, unless};
+use crate::plan::{Inputs, OwnChange, Plan, planned};
+use crate::refusal::{input_fault, unless};
 use crate::rows::replaced_rows;
 use crate::stepped::{Step, take_in};
-use cat_frame::frame::framed;
 use cat_hold::layers::Layers;
-use cat_links::links::{LinkPlan, Links};
+use cat_links::links::Links;
 use cat_model::types::{Fault, Given, Leaving, Origin, ProviderInputs, Settings, State};
-use cat_table::listing::Copied;
+use cat_ref::reference::Ref;
+use cat_table::listing::{Copied, Listing};
 use cat_tree::text::Text;
+use cat_types::input::Offered;
 use cat_types::table::Table;
 use std::alloc::{AllocError, Global};
 
@@ -36,33 +43,6 @@ fn source_of(alloc: Global, m: &State, p: &Text) -> Result<ProviderInputs, Alloc
     }
 }
 
-fn mutated(
-    alloc: Global,
-    p: &Text,
-    x: &Given,
-    source: &ProviderInputs,
-    m: &State,
-) -> Result<State, AllocError>
-    requires { AreSmall m.now }
-    ensures state { IfOk result (λ n. n ≡ mutated_state p.now x.now source.now m.now) }
-    ensures number { IfOk result (λ n. n.number ≤ 2 ^ 59) }
-    ensures ticket { IfOk result (λ n. n.ticket ≤ 2 ^ 59) }
-{
-    let items = next_items(alloc, x, &source.items)?;
-    let order = x.items.keys(alloc)?;
-    let origin = Origin::Provider(p.duplicate(alloc)?);
-    let numbered = replaced_rows(alloc, &origin, &items, order.as_slice(), m)?;
-    let mut n = m.duplicate(alloc)?;
-    let inputs = ProviderInputs {
-        serial: x.serial,
-        items,
-    };
-    n.providers.put(p.duplicate(alloc)?, inputs)?;
-    n.rows = numbered.rows;
-    n.arrival = numbered.next;
-    Ok(n)
-}
-
 /// The provider's last serial number, 0 at first.
 pub fn last_serial(m: &State, p: &Text) -> u64
     ensures { result ≡ (source_at (get m.now.providers p.now)).serial }
@@ -73,39 +53,85 @@ pub fn last_serial(m: &State, p: &Text) -> u64
     }
 }
 
-// The state after a mutation with a new serial, with all that follows.
-fn after_mutation<L: Layers>(
+// Who holds what once a provider offers these items.
+fn claimed_by(
+    alloc: Global,
+    p: &Text,
+    items: &Table<Ref, Offered>,
+    order: &[Ref],
+    m: &State,
+) -> Result<Claimed, AllocError>
+    requires small { m.now.arrival ≤ 2 ^ 59 }
+    requires order { IsTrue (is_sorted text_cmp m.now.holders) }
+    ensures { IfOk result (λ x. IsClaimed x m.now.holders (replaced (Provider p.now) (get items.now) order.now m.now)) }
+{
+    let origin = Origin::Provider(p.duplicate(alloc)?);
+    let numbered = replaced_rows(alloc, &origin, items, order, m)?;
+    let claimed = reclaimed(alloc, &numbered, &m.holders)?;
+    Ok(claimed)
+}
+
+// The providers with these inputs of one.
+fn providers_with(
+    alloc: Global,
+    p: &Text,
+    inputs: ProviderInputs,
+    m: &State,
+) -> Result<Table<Text, ProviderInputs>, AllocError>
+    ensures { IfOk result (λ t. t ≡ put text_cmp p.now inputs m.now.providers) }
+{
+    let mut providers = m.providers.duplicate(alloc)?;
+    providers.put(p.duplicate(alloc)?, inputs)?;
+    Ok(providers)
+}
+
+// A mutation's own change, where these are the provider's items after it.
+fn own_change(
+    alloc: Global,
+    p: &Text,
+    x: &Given,
+    items: Table<Ref, Offered>,
+    m: &State,
+) -> Result<OwnChange, AllocError>
+    requires small { m.now.arrival ≤ 2 ^ 59 }
+    requires order { IsTrue (is_sorted text_cmp m.now.holders) }
+    ensures { IfOk result (λ own. IsMutating p.now x.now items m.now own) }
+{
+    let order = x.items.keys(alloc)?;
+    let claimed = claimed_by(alloc, p, &items, order.as_slice(), m)?;
+    let touched = touched(alloc, &claimed, order.as_slice())?;
+    let inputs = ProviderInputs {
+        serial: x.serial,
+        items,
+    };
+    let providers = providers_with(alloc, p, inputs, m)?;
+    Ok(OwnChange {
+        how: Leaving::Deleted,
+        own: None,
+        inputs: Inputs::Providers(providers),
+        claims: Some(claimed),
+        touched,
+    })
+}
+
+// The plan of a mutation with a new serial.
+fn mutation_plan<L: Layers>(
     alloc: Global,
     layers: &L,
     p: &Text,
     x: &Given,
     m: &State,
     links: &Links,
-) -> Result<(State, LinkPlan), AllocError>
+) -> Result<Plan, AllocError>
     requires { IsSteady L.rules links.now m.now }
-    ensures state { IfOk result (λ n. n.0 ≡ frame L.rules Deleted m.now (mutated_state p.now x.now (source_at (get m.now.providers p.now)) m.now)) }
-    ensures linked { IfOk result (λ n. AreLinked L.rules n.1.after n.0) }
+    ensures state { IfOk result (λ y. planned y m.now ≡ frame L.rules Deleted m.now (mutated_state p.now x.now (source_at (get m.now.providers p.now)) m.now)) }
+    ensures linked { IfOk result (λ y. AreLinked L.rules y.following.links.after (planned y m.now)) }
 {
     let source = source_of(alloc, m, p)?;
-    let n = mutated(alloc, p, x, &source, m)?;
-    let f = framed(alloc, layers, Leaving::Deleted, &None, m, links, n)?;
-    Ok(f)
-}
-
-/// The refusals of what adds to the inputs, where `n` is the state that it gives.
-pub fn input_fault<L: Layers>(
-    alloc: Global,
-    layers: &L,
-    settings: &Settings,
-    n: &State,
-) -> Result<Option<Fault>, AllocError>
-    ensures { IfOk result (λ f. f ≡ or_else (over_limit L.rules settings.now n.now) (spent n.now)) }
-{
-    let sum = layers.bytes(alloc, &n.providers, &n.shelf)?;
-    if settings.input_limit < sum {
-        return Ok(Some(Fault::TooLarge(sum)));
-    }
-    Ok(spent_of(n))
+    let items = next_items(alloc, x, &source.items)?;
+    let own = own_change(alloc, p, x, items, m)?;
+    let plan = planned(alloc, layers, own, m, links)?;
+    Ok(plan)
 }
 
 // What a mutation comes to whose serial is above the provider's last one.
@@ -120,12 +146,12 @@ fn mutation_step<L: Layers>(
 ) -> Result<Step, AllocError>
     requires steady { IsSteady L.rules links.now m.now }
     requires later { (source_at (get m.now.providers p.now)).serial < x.now.serial }
-    ensures come { IfOk result (λ o. seen o ≡ come_to L.rules settings.now (Mutate p.now x.now) m.now) }
-    ensures linked { IfOk result (λ o. IsLinkedStep L.rules o) }
+    ensures come { IfOk result (λ o. seen o m.now ≡ come_to L.rules settings.now (Mutate p.now x.now) m.now) }
+    ensures linked { IfOk result (λ o. IsLinkedStep L.rules o m.now) }
 {
-    let (n, plan) = after_mutation(alloc, layers, p, x, m, links)?;
-    let fault = input_fault(alloc, layers, settings, &n)?;
-    let o = unless(fault, n, plan);
+    let plan = mutation_plan(alloc, layers, p, x, m, links)?;
+    let fault = input_fault(alloc, layers, settings, &plan, m)?;
+    let o = unless(fault, plan);
     Ok(o)
 }
 
@@ -144,5 +170,5 @@ pub fn mutate<L: Layers>(
     ensures { HasCome L.rules (come_to L.rules settings.now (Mutate p.now x.now) state.old) result state.old state.new links.new }
 {
     let step = mutation_step(alloc, layers, settings, p, x, state, links)?;
-    Ok(take_in(step, state, links))
+    take_in(alloc, step, state, links)
 }

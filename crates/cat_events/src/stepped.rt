@@ -1,9 +1,15 @@
 //! What an event comes to.
-ghost use Rattle.std.specs.Prelude.{◌≡◌};
-ghost use Rattle.cat_events.specs.Coming.{came_fault, came_state, links_in, seen};
+ghost use Rattle.std.specs.Prelude.{◌≡◌, IfOk, IsTrue, Option};
+ghost use Rattle.std.specs.FinMap.Entries.{is_sorted};
+ghost use Rattle.cat_table.specs.Table.{text_cmp};
+ghost use Rattle.cat_model.specs.Sound.{AreOrdered};
+ghost use Rattle.cat_events.specs.Coming.{came_fault, links_after, seen, state_after};
 
-use cat_links::links::{LinkPlan, Links};
+use crate::apply::applied;
+use crate::plan::Plan;
+use cat_links::links::Links;
 use cat_model::types::{Fault, State};
+use std::alloc::{AllocError, Global};
 
 /// A refusal, which changes nothing, or the state after.
 #[derive(Drop)]
@@ -12,25 +18,31 @@ pub enum Stepped {
     Acts(State),
 }
 
-/// What an event that may reach many references comes to: a refusal, or the state after it with its links.
+/// What an event that may reach many references comes to: a refusal, or the plan of what differs after it.
 #[derive(Drop)]
 pub enum Step {
     Refused(Fault),
-    Acts(State, LinkPlan),
+    Acts(Plan),
 }
 
-/// Takes in the state and the links that an event gives, or answers its refusal.
-pub fn take_in(step: Step, state: &mut State, links: &mut Links) -> Option<Fault>
-    ensures state { state.new ≡ came_state (seen step) state.old }
-    ensures links { links.new ≡ links_in step links.old }
-    ensures fault { result ≡ came_fault (seen step) }
+/// Takes a step in, or answers its refusal. Where memory is wanted, nothing changes.
+pub fn take_in(
+    alloc: Global,
+    step: Step,
+    state: &mut State,
+    links: &mut Links,
+) -> Result<Option<Fault>, AllocError>
+    requires ordered { AreOrdered state.old }
+    requires records { IsTrue (is_sorted text_cmp state.old.records) }
+    ensures state { state.new ≡ state_after result (seen step state.old) state.old }
+    ensures links { links.new ≡ links_after result step links.old }
+    ensures fault { IfOk result (λ f. f ≡ came_fault (seen step state.old)) }
 {
     match step {
-        Step::Refused(fault) => Some(fault),
-        Step::Acts(after, plan) => {
-            *state = after;
-            links.apply(plan);
-            None
+        Step::Refused(fault) => Ok(Some(fault)),
+        Step::Acts(plan) => {
+            applied(alloc, plan, state, links)?;
+            Ok(None)
         }
     }
 }

@@ -1,5 +1,3 @@
-pub mod Framed
-pub mod Marked
 pub mod Linking
 pub mod Partly
 pub mod Amending

@@ -16,9 +16,7 @@ use Rattle.cat_model.specs.declared.types.Record.{Record}
 use Rattle.cat_model.specs.declared.types.State.{State}
 use Rattle.cat_model.specs.Catalogue.{Ref, Rules, changed_refs, frame, fresh_refs, held, known_refs, orphan_after, parts, parts_from, parts_of_orphan, parts_of_record, record_after, records_emit, reheld, remarked, rerecorded, same_option, work}
 use Rattle.cat_frame.specs.Linked.{AreLinked, AreRecorded, LeavesOthers, TouchesOnly, emit_changes, is_candidate, linked_from, linked_orphan, linked_parts, linked_record, moved}
-use Rattle.cat_frame.specs.Marks.{marked_with}
 use Rattle.cat_frame.proofs.Linking.{changed_are, changes_are, orphan_relations_are, relations_are}
-use Rattle.cat_frame.proofs.Marked.{remarked-is}
 
 -- ---- the parts that links give
 
@@ -112,41 +110,10 @@ module _ (rules : Rules) (how : Leaving) (m n : State) where
         orphan_keeps (held h.holders r) x y (sym (λ i. orphan_after how (held h.holders r) ((touches.records r o ∙ before) i) ((touches.orphans r o ∙ e) i)) ∙ orphan_at r y e');
   }
 
--- the same of a state that is known to be the one with its records
-pub rerecorded_leaves : (rules : Rules) (how : Leaving) (own : Option Ref) (m n h r : State) → h ≡ reheld n → r ≡ rerecorded rules how m n h → TouchesOnly own m n → LeavesOthers own m r
-rerecorded_leaves rules how own m n h r eh er touches = subst (LeavesOthers own m) (sym (er ∙ ap (rerecorded rules how m n) eh)) (others_left rules how m n own touches)
-
-pub rerecorded_are : (rules : Rules) (how : Leaving) (m n h r : State) → h ≡ reheld n → r ≡ rerecorded rules how m n h → AreRecorded r
-rerecorded_are rules how m n h r eh er = subst AreRecorded (sym (er ∙ ap (rerecorded rules how m n) eh)) (rerecorded_recorded rules how m n)
-
 -- ---- marks count for none of this
 
 pub remarked_linked : (rules : Rules) (links : Emitted) (m x : State) → AreLinked rules links x → AreLinked rules links (remarked rules m x)
 remarked_linked rules links m x linked = record { in_order = linked.in_order; each = linked.each }
-
-pub remarked_leaves : (rules : Rules) (own : Option Ref) (m x : State) → LeavesOthers own m x → LeavesOthers own m (remarked rules m x)
-remarked_leaves rules own m x leaves = record { records = leaves.records; come = leaves.come; orphans = leaves.orphans }
-
--- exactly the held references have records once all that follows from an event is there
-pub frame_recorded : (rules : Rules) (how : Leaving) (m n : State) → AreRecorded (frame rules how m n)
-frame_recorded rules how m n r = rerecorded_recorded rules how m n r
-
--- ---- the references whose parts changed, asked with links
-
--- those that pass the test over links are those whose parts changed
-pub moved_are : (rules : Rules) (links links' : Emitted) (changed : List Text) (own : Option Ref) (m n : State) → AreLinked rules links m → AreLinked rules links' n → AreChanged links links' changed
-    → LeavesOthers own m n → AreRecorded m → AreRecorded n → (all passing : List Ref) → all ≡ known_refs n
-    → passing ≡ filter (λ r. is_candidate changed own m n r && moved rules links m links' n r) all → passing ≡ changed_refs rules m n
-moved_are rules links links' changed own m n linked linked' are leaves recorded recorded' all passing ea ep =
-    let before = parts_are rules links m linked recorded in
-    let after = parts_are rules links' n linked' recorded' in
-    ep
-    ∙ ((λ i. filter (λ r. is_candidate changed own m n r && (is_some (after r i) && not (same_option rules.same_parts (before r i) (after r i)))) (ea i))
-    ∙ changed_are rules links links' changed own m n linked linked' are leaves recorded recorded')
-
--- marking what changed is the catalogue's marking
-pub marked_is : (rules : Rules) (m n : State) (changed : List Ref) → changed ≡ changed_refs rules m n → marked_with changed n ≡ remarked rules m n
-marked_is rules m n changed e = remarked-is rules m n changed (known_refs n) (keys n.documents) _ _ _ e refl refl refl refl refl
 
 -- the links with what is emitted otherwise are those of the new state
 pub relinked_are : (rules : Rules) (links after : Emitted) (own : Option Ref) (m n : State) (changes : List EmitChange) → changes ≡ emit_changes rules own m n → after ≡ with_changes links changes

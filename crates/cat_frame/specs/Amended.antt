@@ -2,8 +2,8 @@
 use Rattle.std.specs.Prelude.{List, [], ◌∷◌}
 use Rattle.std.specs.declared.option.Option.{Option}
 use Rattle.std.specs.declared.option.Option.TheVariants.{None, Some}
-use Rattle.cat_table.specs.Rows.{without}
-use Rattle.cat_table.specs.Table.{Map, Text, puts, text_cmp}
+use Rattle.cat_table.specs.Table.{Map, Text, text_cmp}
+use Rattle.cat_types.specs.Amended.{amended as amended_by, without_all as without_keys}
 
 -- the entries with this one before them, where it has a value
 abbrev pub entry_before : {X : Type 0} → Text → Option X → Map X → Map X
@@ -17,9 +17,8 @@ entries_of f (r ∷ rs) = entry_before r (f r) (entries_of f rs)
 
 -- a table without these references
 abbrev pub without_all : {X : Type 0} → List Text → Map X → Map X
-without_all [] m = m
-without_all (r ∷ rs) m = without_all rs (without text_cmp r m)
+without_all rs m = without_keys text_cmp rs m
 
 -- a table without what goes, and with what is put
 abbrev pub amended : {X : Type 0} → Map X → List Text → Map X → Map X
-amended put gone m = puts text_cmp put (without_all gone m)
+amended put gone m = amended_by text_cmp put gone m

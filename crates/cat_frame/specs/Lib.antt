@@ -1,5 +1,4 @@
 pub mod Amended
-pub mod Marks
 pub mod Linked
 pub mod Following
 pub mod Made

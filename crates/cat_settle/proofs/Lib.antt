@@ -4,3 +4,4 @@ pub mod Called
 pub mod Sorted
 pub mod Moves
 pub mod Whole
+pub mod Held

@@ -1,6 +1,9 @@
 //! The orders of a settle, and which records are due.
-ghost use Rattle.std.specs.Prelude.{◌≡◌, ◌≤◌, IfOk, ℕ, List, Option, Bool, min, length, option_map, option_and_then};
-ghost use Rattle.cat_table.specs.Table.{get, keys};
+ghost use Rattle.std.specs.Prelude.{◌≡◌, ◌≤◌, IfOk, IsTrue, ℕ, List, Option, Bool, min, length, option_map, option_and_then};
+ghost use Rattle.std.specs.declared.option.Option.TheVariants.{Some};
+ghost use Rattle.std.specs.FinMap.Entries.{is_sorted};
+ghost use Rattle.std.specs.List.{filter};
+ghost use Rattle.cat_table.specs.Table.{get, keys, text_cmp};
 ghost use Rattle.cat_model.specs.declared.types.Order.{Order as OrderValue};
 ghost use Rattle.cat_model.specs.declared.types.StitchOrder.{StitchOrder as StitchOrderValue};
 ghost use Rattle.cat_model.specs.declared.types.State.{State as StateValue};
@@ -152,15 +155,24 @@ pub fn due(now: u64, kept: Option<&Record>) -> bool
     }
 }
 
-/// The references whose records are due, in order. Each record is looked at, and only what is due is copied.
-pub fn refs_due(alloc: Global, now: u64, m: &State) -> Result<Listing<Ref>, AllocError>
-    ensures { IfOk result (λ l. l ≡ due_refs now m.now) }
+// The keys of the entries whose records are due. Each record is looked at, and only what is due is copied.
+fn keys_due(alloc: Global, now: u64, records: &[(Ref, Record)]) -> Result<Listing<Ref>, AllocError>
+    ensures { IfOk result (λ l. l ≡ keys (filter (λ e. is_due now (Some e.1)) records.now)) }
 {
     let mut refs = Vec::new(alloc);
-    for (reference, _) in m.records.as_slice() {
-        if due(now, m.records.get(reference)) {
+    for (reference, kept) in records {
+        if due(now, Some(kept)) {
             refs.push(reference.duplicate(alloc)?)?;
         }
     }
     Ok(Listing::from_vec(refs))
+}
+
+/// The references whose records are due, in order.
+pub(crate) fn refs_due(alloc: Global, now: u64, m: &State) -> Result<Listing<Ref>, AllocError>
+    requires { IsTrue (is_sorted text_cmp m.now.records) }
+    ensures { IfOk result (λ l. l ≡ due_refs now m.now) }
+{
+    let refs = keys_due(alloc, now, m.records.as_slice())?;
+    Ok(refs)
 }

@@ -29,8 +29,8 @@ fn copied(alloc: Global, marks: &[(Ref, u64)]) -> Result<Vec<(Ref, u64)>, AllocE
     Ok(made)
 }
 
-/// The marks in order of ticket.
-pub fn sorted_marks(alloc: Global, marks: &Table<Ref, u64>) -> Result<Vec<(Ref, u64)>, AllocError>
+// The marks in order of ticket.
+fn sorted_marks(alloc: Global, marks: &Table<Ref, u64>) -> Result<Vec<(Ref, u64)>, AllocError>
     ensures { IfOk result (λ l. l.items ≡ marks_in_order marks.now) }
 {
     let mut made = copied(alloc, marks.as_slice())?;
@@ -38,12 +38,23 @@ pub fn sorted_marks(alloc: Global, marks: &Table<Ref, u64>) -> Result<Vec<(Ref, 
     Ok(made)
 }
 
+// The references of marks, which are taken out of them.
+fn refs_of(alloc: Global, marks: Vec<(Ref, u64)>) -> Result<Listing<Ref>, AllocError>
+    ensures { IfOk result (λ l. l ≡ keys marks.items) }
+{
+    let mut refs = Vec::new(alloc);
+    for (reference, _) in marks {
+        refs.push(reference)?;
+    }
+    Ok(Listing::from_vec(refs))
+}
+
 // The marked references in order of ticket.
 fn marked_refs(alloc: Global, marks: &Table<Ref, u64>) -> Result<Listing<Ref>, AllocError>
     ensures { IfOk result (λ l. l ≡ by_ticket marks.now) }
 {
-    let sorted = Table::from_vec(sorted_marks(alloc, marks)?);
-    sorted.keys(alloc)
+    let sorted = sorted_marks(alloc, marks)?;
+    refs_of(alloc, sorted)
 }
 
 // The document of an order is stored, which is counted or stops the settle.

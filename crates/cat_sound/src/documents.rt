@@ -4,16 +4,28 @@ ghost use Rattle.cat_table.specs.Table.{tabulate, text_cmp};
 ghost use Rattle.cat_model.specs.Catalogue.{known_refs, parts};
 ghost use Rattle.cat_frame.specs.Linked.{AreLinked, AreRecorded, linked_parts};
 
-use cat_frame::marks::all_refs;
 use cat_frame::parts::parts_of;
 use cat_hold::build::{Gives, tabulated};
 use cat_hold::layers::Layers;
+use cat_hold::parts::{Present, append};
 use cat_links::links::Links;
 use cat_model::types::State;
 use cat_ref::reference::Ref;
+use cat_table::listing::Listing;
 use cat_types::node::Node;
 use cat_types::table::Table;
 use std::alloc::{AllocError, Global};
+
+// The references that have a record or are orphans, in order.
+fn all_refs(alloc: Global, m: &State) -> Result<Listing<Ref>, AllocError>
+    ensures { IfOk result (λ l. l ≡ known_refs m.now) }
+{
+    let mut all = m.records.keys(alloc)?;
+    let orphans = m.orphans.keys(alloc)?;
+    append(alloc, &mut all, orphans.as_slice())?;
+    let sorted = tabulated(alloc, all.as_slice(), &Present)?;
+    sorted.keys(alloc)
+}
 
 // Each reference with parts has the document of them.
 #[derive(Drop)]

@@ -7,6 +7,8 @@
 #[cfg(test)]
 mod links;
 #[cfg(test)]
+mod made;
+#[cfg(test)]
 mod refs;
 #[cfg(test)]
 mod same;

@@ -18,19 +18,24 @@ fn counted(alloc: Global, count: u64) -> Result<Map<u64, u64>, AllocError> {
     Ok(map)
 }
 
-#[test]
-fn copies_stay(rt: HostRuntime) -> Result<(), AllocError> {
-    let alloc = rt.alloc();
-    let mut map = counted(alloc, 100)?;
-    let before = map.duplicate(alloc)?;
+// The lower half of the hundred entries goes, and what then is below the middle is put anew.
+fn change_half(alloc: Global, map: &mut Map<u64, u64>) -> Result<(), AllocError> {
     for number in 0..50 {
         map.remove(alloc, &number)?;
         map.put(alloc, 99 - number, 0)?;
     }
+    Ok(())
+}
+
+#[test]
+fn copies_stay(rt: HostRuntime) -> Result<(), AllocError> {
+    let mut map = counted(rt.alloc(), 100)?;
+    let before = map.duplicate(rt.alloc())?;
+    change_half(rt.alloc(), &mut map)?;
     assert!(rt; map.len() == 50);
     assert!(rt; before.len() == 100);
     for number in 0..100 {
-        assert!(rt; before.get(&number).is_some_and(|x| *x == number));
+        assert_eq!(rt; before.get(&number).copied(), Some(number));
     }
     Ok(())
 }
@@ -43,72 +48,120 @@ fn trees_stay_low(rt: HostRuntime) -> Result<(), AllocError> {
     Ok(())
 }
 
-#[test]
-fn lists_and_maps_answer(rt: HostRuntime) -> Result<(), Fail> {
-    let alloc = rt.alloc();
+fn names(alloc: Global) -> Result<Listing<Text>, AllocError> {
     let mut names = Listing::new(alloc);
     for name in ["b", "", "ab", "B"].iter() {
         names.push(Text::of(alloc, name)?)?;
     }
+    Ok(names)
+}
+
+// The place of each name, under the name and 7.
+fn places(alloc: Global) -> Result<Map<(Text, u64), usize>, AllocError> {
+    let names = names(alloc)?;
     let mut places = Map::new();
     for (place, name) in names.iter().enumerate() {
         places.put(alloc, (name.duplicate(alloc)?, 7u64), place)?;
     }
-    let mut shown = String::new(alloc);
+    Ok(places)
+}
+
+#[test]
+fn walks_in_order(rt: HostRuntime) -> Result<(), Fail> {
+    let places = places(rt.alloc())?;
+    let mut shown = String::new(rt.alloc());
     for entry in places.iter() {
         shown.push_str(entry.0.0.as_str())?;
         shown.push_str(";")?;
     }
     assert_eq!(rt; shown.as_str(), ";B;ab;b;");
-    let sought = Text::of(alloc, "ab")?;
-    let (low, high) = (
-        Pair {
+    Ok(())
+}
+
+#[test]
+fn seeks_by_halves(rt: HostRuntime) -> Result<(), Fail> {
+    let places = places(rt.alloc())?;
+    let sought = Text::of(rt.alloc(), "ab")?;
+    for (number, wanted, place) in [(7u64, Some(2), 2), (8, None, 3)].iter() {
+        let pair = Pair {
             first: &sought,
-            second: &7u64,
-        },
-        Pair {
-            first: &sought,
-            second: &8u64,
-        },
-    );
-    assert_eq!(rt; *places.seek(&low).ok_or("absent")?, 2);
-    assert!(rt; places.seek(&high).is_none());
-    assert_eq!(rt; places.seek_place(&low), 2);
-    assert_eq!(rt; places.seek_place(&high), 3);
+            second: number,
+        };
+        assert_eq!(rt; places.seek(&pair).copied(), *wanted);
+        assert_eq!(rt; places.seek_place(&pair), *place);
+    }
+    Ok(())
+}
+
+#[test]
+fn compares_numbers(rt: HostRuntime) {
     assert_eq!(rt; 4u64.compare(&5), Ordering::Less);
+}
+
+// Fills a slot with each of fifty entries, whose keys fall. None has the key of one before.
+fn fill(spare: &mut Spare<(u64, u64)>) -> Result<Owned<u64, u64>, Fail> {
+    let mut map = Owned::new();
+    for number in 0..50u64 {
+        let slot = spare.pop().ok_or("no slot")?;
+        if map.len() < 100 {
+            let before = map.put_node(slot.fill((49 - number, number)));
+            if before.is_some() {
+                return Err(Fail::new("a key twice"));
+            }
+        }
+    }
+    Ok(map)
+}
+
+// Fifty entries, in slots that were taken before.
+fn filled(alloc: Global) -> Result<Owned<u64, u64>, Fail> {
+    let mut spare = Spare::new(alloc);
+    spare.reserve(alloc, 50)?;
+    fill(&mut spare)
+}
+
+#[test]
+fn owned_entries_come_in_slots(rt: HostRuntime) -> Result<(), Fail> {
+    let mut spare = Spare::new(rt.alloc());
+    spare.reserve(rt.alloc(), 50)?;
+    let map = fill(&mut spare)?;
+    assert_eq!(rt; spare.count(), 0);
+    assert_eq!(rt; map.len(), 50);
+    Ok(())
+}
+
+#[test]
+fn owned_entries_are_replaced(rt: HostRuntime) -> Result<(), Fail> {
+    let mut map = filled(rt.alloc())?;
+    for (key, value, before) in [(7, 700, Some(42)), (50, 0, None), (7, 7, Some(700))].iter() {
+        assert_eq!(rt; map.replace(key, *value), *before);
+    }
     Ok(())
 }
 
 #[test]
 fn owned_entries_come_and_go(rt: HostRuntime) -> Result<(), Fail> {
-    let alloc = rt.alloc();
-    let mut spare = Spare::new(alloc);
-    spare.reserve(alloc, 50)?;
-    let mut map = Owned::new();
-    for number in 0..50u64 {
-        let slot = spare.pop().ok_or("no slot")?;
-        if map.len() < 100 {
-            assert!(rt; map.put_node(slot.fill((49 - number, number))).is_none());
-        }
-    }
-    assert_eq!(rt; spare.count(), 0);
-    assert_eq!(rt; map.len(), 50);
-    assert_eq!(rt; map.replace(&7, 700), Some(42));
-    assert_eq!(rt; map.replace(&50, 0), None);
+    let mut map = filled(rt.alloc())?;
     let node = map.take(&7).ok_or("absent")?;
-    assert_eq!(rt; node.item().1, 700);
+    assert_eq!(rt; node.item().1, 42);
     assert!(rt; map.get(&7).is_none());
     let (_, slot) = node.open();
     if map.len() < 100 {
         let before = map.put_node(slot.fill((8, 1))).ok_or("absent")?;
         assert_eq!(rt; before.item().1, 41);
     }
-    map.put(alloc, 7, 2)?;
+    Ok(())
+}
+
+#[test]
+fn owned_entries_are_walked_from_a_key(rt: HostRuntime) -> Result<(), Fail> {
+    let mut map = filled(rt.alloc())?;
+    map.remove(&7);
+    map.replace(&8, 1);
+    map.put(rt.alloc(), 7, 2)?;
     map.remove(&9);
-    for (entry, wanted) in map
-        .iter_from(&6)
-        .zip([(6u64, 43u64), (7, 2), (8, 1), (10, 39)])
-    {
+    let wanted = [(6u64, 43u64), (7, 2), (8, 1), (10, 39)];
+    for (entry, wanted) in map.iter_from(&6).zip(wanted) {
         assert_eq!(rt; *entry, wanted);
     }
     assert_eq!(rt; map.place(&10), 9);

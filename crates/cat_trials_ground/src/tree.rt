@@ -7,8 +7,14 @@ use cat_tree::room::{size, write_within};
 use cat_tree::text::Text;
 use cat_tree::tree::{Pairs, Tree, Trees};
 use cat_tree::write::write;
-use std::alloc::Global;
+use std::alloc::{AllocError, Global};
 use std::test::Fail;
+
+fn text_of(alloc: Global, tree: &Tree) -> Result<Vec<u8>, TreeFault> {
+    let mut out = Vec::new(alloc);
+    write(alloc, tree, &mut out)?;
+    Ok(out)
+}
 
 // What is written for the text, or why it is refused.
 fn rewritten(alloc: Global, text: &[u8]) -> Result<Vec<u8>, TreeFault> {
@@ -54,24 +60,45 @@ fn falling(alloc: Global, value: &[u8]) -> Result<Vec<u8>, TreeFault> {
     Ok(text)
 }
 
+// What is written for the tree at the key, and nothing where there is none.
+fn child_text(alloc: Global, text: &[u8], key: &str) -> Result<Vec<u8>, TreeFault> {
+    let tree = read(alloc, text)?;
+    match child(&tree, key) {
+        Some(found) => text_of(alloc, found),
+        None => Ok(Vec::new(alloc)),
+    }
+}
+
 #[test]
 fn reads_wide_maps(rt: HostRuntime) -> Result<(), Fail> {
-    let tree = read(rt.alloc(), falling(rt.alloc(), b"7")?.as_slice())?;
-    let first = child(&tree, "a").ok_or("no key")?;
-    assert!(rt; same(first, &read(rt.alloc(), b"[7]")?));
-    let last = child(&tree, "10").ok_or("no key")?;
-    assert!(rt; same(last, &read(rt.alloc(), b"[]")?));
-    let wanted: [(&[u8], TreeFault); 2] = [
+    let text = falling(rt.alloc(), b"7")?;
+    let cases: [(&str, &[u8]); 4] = [("a", b"[7]"), ("10", b"[]"), ("99", b"[]"), ("9", b"")];
+    for (key, wanted) in cases.iter() {
+        let found = child_text(rt.alloc(), text.as_slice(), key)?;
+        assert_eq!(rt; found.as_slice(), *wanted);
+    }
+    Ok(())
+}
+
+#[test]
+fn refuses_wide_maps(rt: HostRuntime) -> Result<(), Fail> {
+    let cases: [(&[u8], TreeFault); 2] = [
         (b"1.5", TreeFault::Fraction),
         (b"1.", TreeFault::Syntax),
     ];
-    for (value, fault) in wanted.iter() {
-        match read(rt.alloc(), falling(rt.alloc(), value)?.as_slice()) {
-            Ok(_) => assert!(rt; false),
-            Err(found) => assert_eq!(rt; found, *fault),
-        }
+    for (value, fault) in cases.iter() {
+        let text = falling(rt.alloc(), value)?;
+        assert!(rt; is_refused(rt.alloc(), text.as_slice(), fault), "{fault:?}");
     }
     Ok(())
+}
+
+// Whether the text is refused with this fault.
+fn is_refused(alloc: Global, text: &[u8], fault: &TreeFault) -> bool {
+    match rewritten(alloc, text) {
+        Ok(_) => false,
+        Err(found) => found == *fault,
+    }
 }
 
 #[test]
@@ -88,50 +115,108 @@ fn refuses(rt: HostRuntime) {
         (b"18446744073709551616", TreeFault::Fraction),
     ];
     for (text, fault) in cases.iter() {
-        match rewritten(rt.alloc(), text) {
-            Ok(_) => assert!(rt; false, "{fault:?}"),
-            Err(found) => assert_eq!(rt; found, *fault),
-        }
+        assert!(rt; is_refused(rt.alloc(), text, fault), "{fault:?}");
+    }
+}
+
+// How deep the tree of the text is.
+fn depth_of(alloc: Global, text: &[u8]) -> Result<u64, TreeFault> {
+    Ok(depth(&read(alloc, text)?))
+}
+
+#[test]
+fn measures_depth(rt: HostRuntime) -> Result<(), Fail> {
+    let cases: [(&[u8], u64); 4] = [
+        (b"{\"a\": {\"b\": [[], 7]}}", 4),
+        (b"[[], 7]", 2),
+        (b"[]", 1),
+        (b"7", 0),
+    ];
+    for (text, wanted) in cases.iter() {
+        assert_eq!(rt; depth_of(rt.alloc(), text)?, *wanted);
+    }
+    Ok(())
+}
+
+#[test]
+fn finds_children(rt: HostRuntime) -> Result<(), Fail> {
+    let cases: [(&str, &[u8]); 2] = [("a", b"{\"b\":[[],7]}"), ("b", b"")];
+    for (key, wanted) in cases.iter() {
+        let found = child_text(rt.alloc(), b"{\"a\": {\"b\": [[], 7]}}", key)?;
+        assert_eq!(rt; found.as_slice(), *wanted);
+    }
+    Ok(())
+}
+
+// What is written for the tree at the second key within that at the first, and nothing where there is none.
+fn grandchild_text(
+    alloc: Global,
+    text: &[u8],
+    first: &str,
+    second: &str,
+) -> Result<Vec<u8>, TreeFault> {
+    let tree = read(alloc, text)?;
+    match grandchild(&tree, first, second) {
+        Some(found) => text_of(alloc, found),
+        None => Ok(Vec::new(alloc)),
     }
 }
 
 #[test]
-fn looks_into_a_tree(rt: HostRuntime) -> Result<(), Fail> {
+fn finds_grandchildren(rt: HostRuntime) -> Result<(), Fail> {
+    let cases: [(&str, &str, &[u8]); 3] = [("a", "b", b"[[],7]"), ("a", "c", b""), ("b", "b", b"")];
+    for (first, second, wanted) in cases.iter() {
+        let found = grandchild_text(rt.alloc(), b"{\"a\": {\"b\": [[], 7]}}", first, second)?;
+        assert_eq!(rt; found.as_slice(), *wanted);
+    }
+    Ok(())
+}
+
+// Whether the two texts have the same tree.
+fn alike(alloc: Global, left: &[u8], right: &[u8]) -> Result<bool, TreeFault> {
+    let left = read(alloc, left)?;
+    let right = read(alloc, right)?;
+    Ok(same(&left, &right))
+}
+
+#[test]
+fn compares_trees(rt: HostRuntime) -> Result<(), Fail> {
+    let cases: [(&[u8], &[u8], bool); 4] = [
+        (b"{\"b\": [[], 7]}", b"{\"b\":[[],7]}", true),
+        (b"{\"a\": {\"b\": [[], 7]}}", b"[[], 7]", false),
+        (b"[7]", b"[7]", true),
+        (b"[]", b"[ ]", true),
+    ];
+    for (left, right, wanted) in cases.iter() {
+        assert_eq!(rt; alike(rt.alloc(), left, right)?, *wanted);
+    }
+    Ok(())
+}
+
+#[test]
+fn copies_trees(rt: HostRuntime) -> Result<(), Fail> {
     let tree = read(rt.alloc(), b"{\"a\": {\"b\": [[], 7]}}")?;
-    assert_eq!(rt; depth(&tree), 4);
-    let inner = grandchild(&tree, "a", "b").ok_or("no list")?;
-    assert_eq!(rt; depth(inner), 2);
-    assert!(rt; child(&tree, "b").is_none());
-    assert!(rt;
-        same(
-            child(&tree, "a").ok_or("no map")?,
-            &read(rt.alloc(), b"{\"b\":[[],7]}")?
-        )
-    );
-    assert!(rt; !same(&tree, inner));
-    assert!(rt; same(&tree, &copy(rt.alloc(), &tree)?));
+    let copied = copy(rt.alloc(), &tree)?;
+    assert!(rt; same(&tree, &copied));
     Ok(())
 }
 
 #[test]
 fn writes_128_bits(rt: HostRuntime) -> Result<(), Fail> {
-    let mut items = Vec::new(rt.alloc());
-    items.push(Tree::Whole(i128::MIN))?;
-    items.push(Tree::Whole(i128::MAX))?;
-    items.push(Tree::Map(Pairs::new(rt.alloc())))?;
-    let mut out = Vec::new(rt.alloc());
-    write(rt.alloc(), &Tree::List(Trees::from_vec(items)), &mut out)?;
+    let items = Vec::from_array(
+        rt.alloc(),
+        [
+            Tree::Whole(i128::MIN),
+            Tree::Whole(i128::MAX),
+            Tree::Map(Pairs::new(rt.alloc())),
+        ],
+    )?;
+    let found = text_of(rt.alloc(), &Tree::List(Trees::from_vec(items)))?;
     assert_eq!(rt;
-        out.as_slice(),
+        found.as_slice(),
         b"[-170141183460469231731687303715884105728,170141183460469231731687303715884105727,{}]".as_slice()
     );
     Ok(())
-}
-
-fn text_of(alloc: Global, tree: &Tree) -> Result<Vec<u8>, TreeFault> {
-    let mut out = Vec::new(alloc);
-    write(alloc, tree, &mut out)?;
-    Ok(out)
 }
 
 #[test]
@@ -206,31 +291,45 @@ fn nested(alloc: Global, levels: usize) -> Result<Vec<u8>, TreeFault> {
 
 #[test]
 fn nests_127_levels(rt: HostRuntime) -> Result<(), Fail> {
-    let tree = read(rt.alloc(), nested(rt.alloc(), 127)?.as_slice())?;
-    assert_eq!(rt; depth(&tree), 127);
-    match read(rt.alloc(), nested(rt.alloc(), 128)?.as_slice()) {
-        Ok(_) => assert!(rt; false),
-        Err(fault) => assert_eq!(rt; fault, TreeFault::Syntax),
-    }
+    let most = nested(rt.alloc(), 127)?;
+    assert_eq!(rt; depth_of(rt.alloc(), most.as_slice())?, 127);
+    let more = nested(rt.alloc(), 128)?;
+    assert!(rt; is_refused(rt.alloc(), more.as_slice(), &TreeFault::Syntax));
     Ok(())
 }
 
-#[test]
-fn holds_lists_and_maps(rt: HostRuntime) -> Result<(), Fail> {
-    let mut pairs = Pairs::new(rt.alloc());
-    pairs.insert(Text::of(rt.alloc(), "b")?, Tree::Null)?;
-    pairs.insert(Text::of(rt.alloc(), "a")?, Tree::Flag(true))?;
+// A map that had two keys and has one left.
+fn left_map(alloc: Global) -> Result<Pairs, AllocError> {
+    let mut pairs = Pairs::new(alloc);
+    for key in ["b", "a"].iter() {
+        pairs.insert(Text::of(alloc, key)?, Tree::Flag(true))?;
+    }
     pairs.remove("b");
+    Ok(pairs)
+}
+
+#[test]
+fn holds_maps(rt: HostRuntime) -> Result<(), Fail> {
+    let pairs = left_map(rt.alloc())?;
     assert!(rt; !pairs.is_empty() && pairs.len() == 1);
     assert!(rt; pairs.get("b").is_none() && pairs.get("a").is_some());
     let pairs = Pairs::from_vec(pairs.into_vec());
     assert_eq!(rt; pairs.as_slice().len(), 1);
-    let mut items = Vec::new(rt.alloc());
-    items.push(Tree::Map(pairs))?;
+    Ok(())
+}
+
+#[test]
+fn holds_lists(rt: HostRuntime) -> Result<(), Fail> {
+    let items = Vec::from_array(rt.alloc(), [Tree::Map(left_map(rt.alloc())?)])?;
     let trees = Trees::from_vec(items);
     assert!(rt; !trees.is_empty() && trees.len() == 1);
     assert_eq!(rt; trees.as_slice().len(), 1);
     assert_eq!(rt; trees.into_vec().len(), 1);
+    Ok(())
+}
+
+#[test]
+fn holds_texts(rt: HostRuntime) -> Result<(), Fail> {
     let text = Text::from_string(String::from_str(rt.alloc(), "a")?);
     assert_eq!(rt; text.as_str(), "a");
     Ok(())

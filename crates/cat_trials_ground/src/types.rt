@@ -1,33 +1,93 @@
 //! Tables, relations and copies.
-use cat_ref::reference::{Ref, parse};
+use crate::made::{alone, node, parts, reference, relation, work};
+use cat_ref::reference::Ref;
 use cat_table::key::Key;
 use cat_table::listing::{Copied, Listing};
+use cat_table::map::rise;
 use cat_tree::text::Text;
-use cat_tree::tree::Tree;
 use cat_types::input::{Item, Offered};
 use cat_types::issue::{Issue, IssueName, Level};
 use cat_types::node::Node;
-use cat_types::parts::Parts;
 use cat_types::relation::{RelKind, Relation};
-use cat_types::table::Table;
-use cat_types::work::{Content, Output, Work};
-use std::alloc::Global;
+use cat_types::table::{Ready, Table};
+use cat_types::work::Output;
+use std::alloc::{AllocError, Global};
 use std::cmp::Ordering;
 use std::test::Fail;
 
-#[test]
-fn keeps_entries_in_order(rt: HostRuntime) -> Result<(), Fail> {
-    let mut table = Table::new(rt.alloc());
+// The table after five puts, the last two at keys that it has.
+fn filled(alloc: Global) -> Result<Table<u64, u64>, AllocError> {
+    let mut table = Table::new(alloc);
     let given: [(u64, u64); 5] = [(3, 30), (1, 10), (2, 20), (3, 33), (1, 11)];
     for (key, value) in given.iter() {
         table.put(*key, *value)?;
     }
-    let table = table.duplicate(rt.alloc())?;
+    Ok(table)
+}
+
+#[test]
+fn keeps_entries_in_order(rt: HostRuntime) -> Result<(), Fail> {
+    let table = filled(rt.alloc())?.duplicate(rt.alloc())?;
     assert_eq!(rt; table.len(), 3);
     assert_eq!(rt; table.as_slice(), [(1, 11), (2, 20), (3, 33)].as_slice());
     assert_eq!(rt; table.keys(rt.alloc())?.as_slice(), [1, 2, 3].as_slice());
-    assert!(rt; table.get(&4).is_none());
-    assert_eq!(rt; *table.get(&3).ok_or("absent")?, 33);
+    Ok(())
+}
+
+#[test]
+fn finds_entries_in_order(rt: HostRuntime) -> Result<(), Fail> {
+    let table = filled(rt.alloc())?.duplicate(rt.alloc())?;
+    for (key, wanted) in [(4, None), (3, Some(33)), (1, Some(11))].iter() {
+        assert_eq!(rt; table.get(key).copied(), *wanted);
+    }
+    Ok(())
+}
+
+// The numbers from one on, as many as asked for, each with its double.
+fn doubled(alloc: Global, from: u64, count: u64) -> Result<Vec<(u64, u64)>, Fail> {
+    let mut entries = Vec::new(alloc);
+    for key in 0..count {
+        entries.push((from.wrapping_add(key), key.wrapping_mul(2)))?;
+    }
+    Ok(entries)
+}
+
+// A table of so many numbers, that is to lose the first of them and to get as many more.
+fn ready(alloc: Global, count: u64) -> Result<Option<Ready<u64, u64>>, Fail> {
+    let mut table = Table::new(alloc);
+    for (key, value) in doubled(alloc, 0, count)? {
+        table.put(key, value)?;
+    }
+    let mut gone = Listing::new(alloc);
+    gone.push(0)?;
+    if !rise(table.as_slice()) {
+        return Ok(None);
+    }
+    Ok(table.ready(alloc, doubled(alloc, count, count)?, gone).ok())
+}
+
+#[test]
+fn amends_a_table_by_few_entries_and_by_many(rt: HostRuntime) -> Result<(), Fail> {
+    for count in [3u64, 200].iter() {
+        let Some(amended) = ready(rt.alloc(), *count)? else {
+            panic!(rt; "no table")
+        };
+        let after = amended.after();
+        assert_eq!(rt; after.len() as u64, count.wrapping_mul(2).wrapping_sub(1));
+        assert_eq!(rt; after.get(&0), None);
+        assert_eq!(rt; after.get(count), Some(&0));
+    }
+    Ok(())
+}
+
+#[test]
+fn gives_a_table_back_that_was_to_be_amended(rt: HostRuntime) -> Result<(), Fail> {
+    let Some(amended) = ready(rt.alloc(), 5)? else {
+        panic!(rt; "no table")
+    };
+    let before = amended.before();
+    assert_eq!(rt; before.len(), 5);
+    assert_eq!(rt; before.get(&0), Some(&0));
     Ok(())
 }
 
@@ -48,23 +108,26 @@ fn changes_entries_in_place(rt: HostRuntime) -> Result<(), Fail> {
 
 #[test]
 fn finds_entries_in_any_order(rt: HostRuntime) -> Result<(), Fail> {
-    let mut given = Vec::new(rt.alloc());
-    for entry in [(3u64, 30u64), (1, 10), (3, 33)].iter() {
-        given.push(*entry)?;
-    }
+    let given = Vec::from_array(rt.alloc(), [(3u64, 30u64), (1, 10), (3, 33)])?;
     let table = Table::from_vec(given);
-    assert_eq!(rt; *table.get(&3).ok_or("absent")?, 30);
-    assert_eq!(rt; *table.get(&1).ok_or("absent")?, 10);
-    assert!(rt; table.get(&2).is_none());
+    for (key, wanted) in [(3, Some(30)), (1, Some(10)), (2, None)].iter() {
+        assert_eq!(rt; table.get(key).copied(), *wanted);
+    }
     Ok(())
+}
+
+// A table of four texts.
+fn named(alloc: Global) -> Result<Table<Text, u64>, AllocError> {
+    let mut table = Table::new(alloc);
+    for key in ["b", "", "ab", "B"].iter() {
+        table.put(Text::of(alloc, key)?, 0u64)?;
+    }
+    Ok(table)
 }
 
 #[test]
 fn orders_texts_by_bytes(rt: HostRuntime) -> Result<(), Fail> {
-    let mut table = Table::new(rt.alloc());
-    for key in ["b", "", "ab", "B"].iter() {
-        table.put(Text::of(rt.alloc(), key)?, 0u64)?;
-    }
+    let table = named(rt.alloc())?;
     let mut keys = String::new(rt.alloc());
     for (key, _) in table.as_slice() {
         keys.push_str(key.as_str())?;
@@ -74,29 +137,21 @@ fn orders_texts_by_bytes(rt: HostRuntime) -> Result<(), Fail> {
     Ok(())
 }
 
-fn reference(alloc: Global, text: &str) -> Result<Ref, Fail> {
-    Ok(parse(alloc, text, None, "default")?)
-}
-
-fn relation(alloc: Global, source: &str, kind: RelKind, target: &str) -> Result<Relation, Fail> {
-    Ok(Relation {
-        source: reference(alloc, source)?,
-        kind,
-        target: reference(alloc, target)?,
-    })
-}
+// Relations in their order.
+const RISING: [(&str, RelKind, &str); 4] = [
+    ("a:x", RelKind::PartOf, "b:x"),
+    ("b:x", RelKind::DependsOn, "c:z"),
+    ("b:x", RelKind::OwnedBy, "c:y"),
+    ("b:x", RelKind::OwnedBy, "c:z"),
+];
 
 #[test]
 fn orders_relations(rt: HostRuntime) -> Result<(), Fail> {
-    let rising = [
-        relation(rt.alloc(), "a:x", RelKind::PartOf, "b:x")?,
-        relation(rt.alloc(), "b:x", RelKind::DependsOn, "c:z")?,
-        relation(rt.alloc(), "b:x", RelKind::OwnedBy, "c:y")?,
-        relation(rt.alloc(), "b:x", RelKind::OwnedBy, "c:z")?,
-    ];
-    for (i, left) in rising.iter().enumerate() {
-        for (j, right) in rising.iter().enumerate() {
-            assert_eq!(rt; left.compare(right), i.cmp(&j));
+    for (place, left) in RISING.iter().enumerate() {
+        let left = relation(rt.alloc(), left.0, left.1, left.2)?;
+        for (other, right) in RISING.iter().enumerate() {
+            let right = relation(rt.alloc(), right.0, right.1, right.2)?;
+            assert_eq!(rt; left.compare(&right), place.cmp(&other));
         }
     }
     Ok(())
@@ -127,79 +182,80 @@ fn names_kinds_of_relations(rt: HostRuntime) {
 
 #[test]
 fn copies_parts(rt: HostRuntime) -> Result<(), Fail> {
-    let mut relations = Listing::new(rt.alloc());
-    relations.push(relation(rt.alloc(), "a:x", RelKind::PartOf, "b:x")?)?;
-    let mut issues = Listing::new(rt.alloc());
-    issues.push(Issue {
-        level: Level::Warning,
-        name: IssueName::DuplicateOffer,
-        message: Text::of(rt.alloc(), "m")?,
-    })?;
-    let parts = Parts {
-        entity: Node::new(rt.alloc(), Tree::Flag(true))?,
-        number: 7,
-        orphan: true,
-        relations,
-        issues,
-    };
+    let parts = parts(rt.alloc(), 7, RelKind::PartOf, IssueName::DuplicateOffer)?;
     let copy = parts.duplicate(rt.alloc())?;
     assert!(rt; copy.entity.same(&parts.entity) && copy.number == 7 && copy.orphan);
     assert_eq!(rt; copy.relations.len(), 1);
     assert_eq!(rt; copy.issues.len(), 1);
-    for (left, right) in copy
-        .relations
-        .as_slice()
-        .iter()
-        .zip(parts.relations.as_slice())
-    {
+    Ok(())
+}
+
+#[test]
+fn copies_relations_of_parts(rt: HostRuntime) -> Result<(), Fail> {
+    let parts = parts(rt.alloc(), 7, RelKind::PartOf, IssueName::DuplicateOffer)?;
+    let copy = parts.duplicate(rt.alloc())?;
+    let originals = parts.relations.as_slice();
+    for (left, right) in copy.relations.as_slice().iter().zip(originals) {
         assert_eq!(rt; left.compare(right), Ordering::Equal);
-    }
-    for issue in copy.issues.as_slice() {
-        assert_eq!(rt; issue.level, Level::Warning);
-        assert_eq!(rt; issue.name, IssueName::DuplicateOffer);
-        assert_eq!(rt; issue.message.as_str(), "m");
     }
     Ok(())
 }
 
 #[test]
-fn copies_works_and_outputs(rt: HostRuntime) -> Result<(), Fail> {
-    let mut contents = Listing::new(rt.alloc());
-    contents.push(Content {
-        name: Text::of(rt.alloc(), "file:/a")?,
-        body: Some(Text::of(rt.alloc(), "{}")?),
-    })?;
-    let work = Work {
-        tree: Node::new(rt.alloc(), Tree::Null)?,
-        contents,
-    };
-    for content in work.duplicate(rt.alloc())?.contents.as_slice() {
+fn copies_issues_of_parts(rt: HostRuntime) -> Result<(), Fail> {
+    let parts = parts(rt.alloc(), 7, RelKind::PartOf, IssueName::DuplicateOffer)?;
+    let copy = parts.duplicate(rt.alloc())?;
+    for issue in copy.issues.as_slice() {
+        assert_eq!(rt; issue.level, Level::Warning);
+        assert_eq!(rt; issue.name, IssueName::DuplicateOffer);
+        assert_eq!(rt; issue.message.as_str(), "S2 apiVersion");
+    }
+    Ok(())
+}
+
+#[test]
+fn copies_works(rt: HostRuntime) -> Result<(), Fail> {
+    let copy = work(rt.alloc(), b"null", Some("{}"))?.duplicate(rt.alloc())?;
+    assert_eq!(rt; copy.contents.len(), 1);
+    for content in copy.contents.as_slice() {
         assert_eq!(rt; content.name.as_str(), "file:/a");
         assert!(rt; content.body.is_some());
     }
-    let mut offers = Table::new(rt.alloc());
+    Ok(())
+}
+
+// An output that offers one tree under the key k.
+fn output(alloc: Global) -> Result<Output, Fail> {
     let offered = Offered {
-        key: Text::of(rt.alloc(), "k")?,
-        tree: Node::new(rt.alloc(), Tree::Whole(1))?,
+        key: Text::of(alloc, "k")?,
+        tree: node(alloc, b"1")?,
     };
-    offers.put(reference(rt.alloc(), "a:x")?, offered)?;
-    let output = Output {
-        entity: Node::new(rt.alloc(), Tree::Null)?,
-        offers,
-    };
+    let mut offers = Table::new(alloc);
+    offers.put(reference(alloc, "a:x")?, offered)?;
+    let entity = node(alloc, b"null")?;
+    Ok(Output { entity, offers })
+}
+
+#[test]
+fn copies_outputs(rt: HostRuntime) -> Result<(), Fail> {
+    let output = output(rt.alloc())?;
     let copy = output.duplicate(rt.alloc())?;
     assert!(rt; copy.entity.same(&output.entity));
-    let offered = copy
-        .offers
-        .get(&reference(rt.alloc(), "a:x")?)
-        .ok_or("absent")?;
+    let sought = reference(rt.alloc(), "a:x")?;
+    let offered = copy.offers.get(&sought).ok_or("absent")?;
     assert_eq!(rt; offered.key.as_str(), "k");
+    assert!(rt; offered.tree.same(&node(rt.alloc(), b"1")?));
+    Ok(())
+}
+
+#[test]
+fn copies_items(rt: HostRuntime) -> Result<(), Fail> {
     let item = Item {
         reference: reference(rt.alloc(), "a:x")?,
         key: None,
-        tree: offered.tree.duplicate(rt.alloc())?,
+        tree: node(rt.alloc(), b"1")?,
     };
-    let item = item.duplicate(rt.alloc())?;
-    assert!(rt; item.key.is_none() && item.tree.same(&offered.tree));
+    let copy = item.duplicate(rt.alloc())?;
+    assert!(rt; copy.key.is_none() && copy.tree.same(&item.tree));
     Ok(())
 }

@@ -1,3 +1,4 @@
+pub mod Amended
 pub mod Relation
 pub mod Relations
 pub mod Rising

@@ -4,6 +4,7 @@ ghost use Rattle.std.specs.FinMap.Entries.{is_sorted};
 ghost use Rattle.std.specs.Ordering.{ordering_reverse};
 ghost use Rattle.cat_table.specs.Rows.{IsAt, IsBetween, without};
 ghost use Rattle.cat_table.specs.Table.{find, put, puts};
+ghost use Rattle.cat_types.specs.Amended.{amended, without_all};
 
 use cat_table::key::Key;
 use std::alloc::AllocError;
@@ -120,7 +121,10 @@ pub fn replace<K: Key + Drop, X: Drop>(rows: &mut Vec<(K, X)>, key: &K, value: X
 /// Removes the key's row, if there is one.
 pub fn remove<K: Key + Drop, X: Drop>(rows: &mut Vec<(K, X)>, key: &K)
     requires { IsTrue (is_sorted K.order rows.old.items) }
-    ensures { rows.new.items ≡ without K.order key.now rows.old.items }
+    ensures items { rows.new.items ≡ without K.order key.now rows.old.items }
+    ensures order { IsTrue (is_sorted K.order rows.new.items) }
+    ensures len { vec_len rows.new ≤ vec_len rows.old }
+    ensures capacity { vec_capacity rows.old ≤ vec_capacity rows.new }
 {
     if let Ok(place) = place_of(rows.as_slice(), key) {
         rows.remove(place);
@@ -141,6 +145,42 @@ fn put_with_room<K: Key + Drop, X: Drop>(rows: &mut Vec<(K, X)>, key: K, value: 
     }
 }
 
+// Puts these rows, one after the other. With room for all of them that takes no memory.
+fn put_all_with_room<K: Key + Drop, X: Drop>(rows: &mut Vec<(K, X)>, entries: Vec<(K, X)>)
+    requires order { IsTrue (is_sorted K.order rows.old.items) }
+    requires room { vec_len rows.old + vec_len entries ≤ vec_capacity rows.old }
+    ensures rows { rows.new.items ≡ puts K.order entries.items rows.old.items }
+    ensures order { IsTrue (is_sorted K.order rows.new.items) }
+{
+    for (key, value) in entries {
+        put_with_room(rows, key, value);
+    }
+}
+
+// Removes the rows of these keys.
+fn remove_all<K: Key + Drop, X: Drop>(rows: &mut Vec<(K, X)>, keys: &[K])
+    requires order { IsTrue (is_sorted K.order rows.old.items) }
+    ensures items { rows.new.items ≡ without_all K.order keys.now rows.old.items }
+    ensures order { IsTrue (is_sorted K.order rows.new.items) }
+    ensures len { vec_len rows.new ≤ vec_len rows.old }
+    ensures capacity { vec_capacity rows.old ≤ vec_capacity rows.new }
+{
+    for key in keys {
+        remove(rows, key);
+    }
+}
+
+/// Removes the rows of some keys, and then puts some rows, one after the other. With room for what is put that takes no memory.
+pub fn amend<K: Key + Drop, X: Drop>(rows: &mut Vec<(K, X)>, put: Vec<(K, X)>, gone: &[K])
+    requires order { IsTrue (is_sorted K.order rows.old.items) }
+    requires room { vec_len rows.old + vec_len put ≤ vec_capacity rows.old }
+    ensures rows { rows.new.items ≡ amended K.order put.items gone.now rows.old.items }
+    ensures order { IsTrue (is_sorted K.order rows.new.items) }
+{
+    remove_all(rows, gone);
+    put_all_with_room(rows, put);
+}
+
 /// Puts these rows, one after the other; where memory is wanted, none of them.
 pub fn put_all<K: Key + Drop, X: Drop>(
     rows: &mut Vec<(K, X)>,
@@ -150,8 +190,6 @@ pub fn put_all<K: Key + Drop, X: Drop>(
     ensures { rows.new.items ≡ (if is_ok result then puts K.order entries.items rows.old.items else rows.old.items) }
 {
     rows.reserve(entries.len())?;
-    for (key, value) in entries {
-        put_with_room(rows, key, value);
-    }
+    put_all_with_room(rows, entries);
     Ok(())
 }

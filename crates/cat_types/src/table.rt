@@ -1,12 +1,15 @@
 //! Tables: what contracts see as entries by key in order of the keys.
-ghost use Rattle.std.specs.Prelude.{◌≡◌, [], length, option_map, is_ok, is_some, if◌then◌else◌, IfOk, IsTrue};
+ghost use Rattle.std.specs.Prelude.{◌≡◌, ◌+◌, ◌≤◌, [], length, option_map, is_ok, is_some, if◌then◌else◌, IfErr, IfOk, IsTrue, vec_capacity, vec_len};
 ghost use Rattle.std.specs.FinMap.Entries.{is_sorted};
 ghost use Rattle.cat_table.specs.Rows.{without};
 ghost use Rattle.cat_table.specs.Table.{find, keys, put, puts};
+ghost use Rattle.cat_types.specs.Amended.{amended, without_all};
 
 use crate::rows;
 use cat_table::key::Key;
 use cat_table::listing::{Copied, Listing};
+use cat_table::map::Map;
+use cat_table::tree::MOST;
 use std::alloc::{AllocError, Global};
 use std::marker::Model;
 
@@ -143,5 +146,176 @@ impl<K: Key + Drop, X: Drop> Table<K, X> {
         ensures { self.new ≡ without K.order key.now self.old }
     {
         rows::remove(&mut self.items, key);
+    }
+}
+
+// How a table is amended: entries are put into it and keys taken out of it where it stands, or the amended one was made beside it.
+#[derive(Drop)]
+enum Way<K, X> {
+    InPlace(Vec<(K, X)>, Listing<K>),
+    Anew(Vec<(K, X)>),
+}
+
+/// A table with all memory for its amendment. Contracts see the entries before it and after it.
+#[derive(Drop)]
+pub struct Ready<K: Key, X> {
+    items: Vec<(K, X)>,
+    way: Way<K, X>,
+}
+
+impl<K: Key, X> Model for Ready<K, X> {
+    ghost use Rattle.std.specs.Prelude.{List, IsTrue};
+    ghost use Rattle.std.specs.FinMap.Entries.{is_sorted};
+    ghost use Rattle.cat_types.specs.Amended.{HasRoom, after_in};
+
+    ghost Value = { List (K × X) × List (K × X) };
+
+    ghost view = { λ a. (a.items.items, after_in K.order a.way a.items.items) };
+
+    ghost invariant = { λ a. IsTrue (is_sorted K.order a.items.items) × HasRoom K.order a.way a.items };
+}
+
+// From so many changed entries on, a table that has some is amended in a copy: each entry that comes or goes moves those behind it.
+const MANY: usize = 128;
+
+// Copies of entries.
+fn copies<K: Key + Copied + Drop, X: Copied + Drop>(
+    alloc: Global,
+    items: &[(K, X)],
+) -> Result<Vec<(K, X)>, AllocError>
+    ensures { IfOk result (λ made. made.items ≡ items.now) }
+{
+    let mut made = Vec::new(alloc);
+    for entry in items {
+        made.push(entry.duplicate(alloc)?)?;
+    }
+    Ok(made)
+}
+
+// A map of copies of entries.
+fn mapped<K: Key + Copied + Drop, X: Copied + Drop>(
+    alloc: Global,
+    items: &[(K, X)],
+) -> Result<Map<K, X>, AllocError>
+    requires { IsTrue (is_sorted K.order items.now) }
+    ensures { IfOk result (λ map. map ≡ items.now) }
+{
+    if items.len() > MOST {
+        return Err(AllocError);
+    }
+    let entries = copies(alloc, items)?;
+    Map::from_vec(alloc, entries)
+}
+
+// Removes the entries of some keys from a map.
+fn remove_all<K: Key + Drop, X: Drop>(
+    alloc: Global,
+    map: &mut Map<K, X>,
+    gone: &[K],
+) -> Result<(), AllocError>
+    ensures { IfOk result (λ _. map.new ≡ without_all K.order gone.now map.old) }
+{
+    for key in gone {
+        map.remove(alloc, key)?;
+    }
+    Ok(())
+}
+
+// Copies of the entries of a map.
+fn listed<K: Key + Copied + Drop, X: Copied + Drop>(
+    alloc: Global,
+    map: &Map<K, X>,
+) -> Result<Vec<(K, X)>, AllocError>
+    ensures { IfOk result (λ made. made.items ≡ map.now) }
+{
+    let mut made = Vec::new(alloc);
+    for entry in map.iter() {
+        made.push(entry.duplicate(alloc)?)?;
+    }
+    Ok(made)
+}
+
+// The entries of a table, amended in a copy.
+fn amended_copy<K: Key + Copied + Drop, X: Copied + Drop>(
+    alloc: Global,
+    items: &[(K, X)],
+    put: Vec<(K, X)>,
+    gone: &[K],
+) -> Result<Vec<(K, X)>, AllocError>
+    requires { IsTrue (is_sorted K.order items.now) }
+    ensures items { IfOk result (λ made. made.items ≡ amended K.order put.items gone.now items.now) }
+    ensures order { IfOk result (λ made. IsTrue (is_sorted K.order made.items)) }
+{
+    let mut map = mapped(alloc, items)?;
+    remove_all(alloc, &mut map, gone)?;
+    map.put_all(alloc, put)?;
+    map.in_order();
+    listed(alloc, &map)
+}
+
+impl<K: Key + Copied + Drop, X: Copied + Drop> Table<K, X> {
+    /// Takes all memory for an amendment: keys go, and then entries are put, one after the other. Where memory is wanted the
+    /// table is given back.
+    pub fn ready(
+        self,
+        alloc: Global,
+        put: Vec<(K, X)>,
+        gone: Listing<K>,
+    ) -> Result<Ready<K, X>, Table<K, X>>
+        requires { IsTrue (is_sorted K.order self) }
+        ensures ready { IfOk result (λ r. (r.0 ≡ self) × (r.1 ≡ amended K.order put.items gone self)) }
+        ensures refused { IfErr result (λ table. table ≡ self) }
+    {
+        let Table { items, rising } = self;
+        let mut items = items;
+        if items.len() > 0 && put.len() + gone.len() > MANY {
+            return match amended_copy(alloc, items.as_slice(), put, gone.as_slice()) {
+                Ok(made) => Ok(Ready {
+                    items,
+                    way: Way::Anew(made),
+                }),
+                Err(_) => Err(Table { items, rising }),
+            };
+        }
+        match items.reserve(put.len()) {
+            Ok(()) => Ok(Ready {
+                items,
+                way: Way::InPlace(put, gone),
+            }),
+            Err(_) => Err(Table { items, rising }),
+        }
+    }
+}
+
+impl<K: Key + Drop, X: Drop> Ready<K, X> {
+    /// The table as it was. Takes no memory.
+    pub fn before(self) -> Table<K, X>
+        ensures { result ≡ self.0 }
+    {
+        Table {
+            items: self.items,
+            rising: true,
+        }
+    }
+
+    /// The table, amended. Takes no memory.
+    pub fn after(self) -> Table<K, X>
+        ensures { result ≡ self.1 }
+    {
+        let Ready { items, way } = self;
+        match way {
+            Way::InPlace(put, gone) => {
+                let mut items = items;
+                rows::amend(&mut items, put, gone.as_slice());
+                Table {
+                    items,
+                    rising: true,
+                }
+            }
+            Way::Anew(made) => Table {
+                items: made,
+                rising: true,
+            },
+        }
     }
 }

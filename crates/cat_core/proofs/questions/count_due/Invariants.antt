@@ -1,9 +1,9 @@
 use Rattle.std.proofs.Common.{◌≡◌, ◌≤◌, ◌+◌, length, drop}
+use Rattle.std.specs.declared.option.Option.TheVariants.{Some}
 use Rattle.std.specs.List.{filter}
-use Rattle.cat_table.specs.Table.{get, keys}
 use Rattle.cat_model.specs.Settle.{is_due}
 use Rattle.cat_core.proofs.questions.count_due.Given as goal
 
-abbrev pub invariant-loop-reference : goal.invariant-loop-reference
-invariant-loop-reference l =
-    (l.count ≤ l.reference-index) × (l.count + length (filter (λ r. is_due l.now (get l.m.records r)) (keys (drop l.reference-index l.reference-items))) ≡ length (filter (λ r. is_due l.now (get l.m.records r)) (keys l.reference-items)))
+abbrev pub invariant-loop-kept : goal.invariant-loop-kept
+invariant-loop-kept l =
+    (l.count ≤ l.kept-index) × (l.count + length (filter (λ e. is_due l.now (Some e.1)) (drop l.kept-index l.records)) ≡ length (filter (λ e. is_due l.now (Some e.1)) l.records))

@@ -1,6 +1,10 @@
 use Rattle.cat_model.specs.Step.Event.{ForgetNumber}
 use Rattle.cat_core.proofs.Calls.{ledger_kept, reply_is, state_is}
+use Rattle.cat_core.proofs.Numbers.{apart_of}
 use Rattle.cat_core.proofs.catalogue.Catalogue.forget_number.Goals as goal
+
+pub with_number-requires : goal.with_number-requires
+with_number-requires g c = apart_of g.L.Layers.rules c.self.inside.links c.self.inside.ledger.state c.self.invariant.steady
 
 pub invariant_of-self : goal.invariant_of-self
 invariant_of-self g c =

@@ -1,0 +1,317 @@
+-- The own changes of events, and what they reach.
+use Rattle.std.proofs.Common.{T, ◌≡◌, ℕ, Bool, true, false, cond, not, ◌&&◌, ◌||◌, List, [], ◌++◌, MatchBool, refl, sym, ap, subst, ◌∙◌, is_some, true≢false}
+use Rattle.std.specs.declared.option.Option.{Option}
+use Rattle.std.specs.declared.option.Option.TheVariants.{None, Some}
+use Rattle.std.specs.List.{filter, list_any}
+use Rattle.std.specs.List.Sorted.{IsStrictlySortedBy}
+use Rattle.std.proofs.lemmas.List.Folds.{list_any-append}
+use Rattle.std.specs.FinMap.Entries.{is_some-find}
+use Rattle.cat_table.specs.Table.{Map, Text, get, keys, put, same_text, text_cmp}
+use Rattle.cat_table.proofs.Orders.{has-filter, in_order-rises}
+use Rattle.cat_table.proofs.Tables.{or_false_first, or_false_second, text_antisymmetric, text_total}
+use Rattle.cat_types.specs.declared.work.Outcome.{Outcome}
+use Rattle.cat_types.specs.declared.work.Outcome.TheVariants.{Good, Bad}
+use Rattle.cat_model.specs.declared.types.Given.{Given}
+use Rattle.cat_model.specs.declared.types.Leaving.{Leaving}
+use Rattle.cat_model.specs.declared.types.Leaving.TheVariants.{Deleted}
+use Rattle.cat_model.specs.declared.types.Numbered.{Numbered}
+use Rattle.cat_model.specs.declared.types.Origin.TheVariants.{Provider, Entity}
+use Rattle.cat_model.specs.declared.types.ProviderInputs.{ProviderInputs}
+use Rattle.cat_model.specs.declared.types.Record.{Record}
+use Rattle.cat_model.specs.declared.types.Settings.{Settings}
+use Rattle.cat_model.specs.declared.types.State.{State}
+use Rattle.cat_model.specs.Catalogue.{Holders, Offers, Ref, Rows, Rules, Shelf, held, holding, rehold, reheld, same_option, standing, work}
+use Rattle.cat_model.specs.Sound.{AreOffers, Sound}
+use Rattle.cat_model.specs.Step.{finished_record, finished_rows, finished_state, forgotten, items_after, mutated_state, replaced, source_at, with_record}
+use Rattle.cat_laws.proofs.Alone.{reheld_stays}
+use Rattle.cat_laws.proofs.Frame.{same_option-is}
+use Rattle.cat_frame.specs.Following.{IsOwnChange, IsReach, held_state}
+use Rattle.cat_frame.specs.declared.change.Own.{Own}
+use Rattle.cat_frame.proofs.Owned.{finish_is_own, forget_is_own, reach_is}
+use Rattle.cat_events.specs.Claimed.{IsClaimed, are_others}
+use Rattle.cat_events.specs.Mutating.{IsFinishing, IsMutating, finishing_alone, offered_refs}
+use Rattle.cat_events.specs.Planned.{IsOwned, IsReached}
+use Rattle.cat_events.specs.Shelf.{reads_other, with_shelf}
+use Rattle.cat_events.specs.declared.claims.Claimed.{Claimed}
+use Rattle.cat_events.specs.declared.plan.Inputs.TheVariants.{Same, Providers, Shelf as ShelfInputs}
+use Rattle.cat_events.specs.declared.plan.OwnChange.{OwnChange}
+use Rattle.cat_events.specs.Alone.{offers_again}
+use Rattle.cat_events.proofs.Held.{finish_keeps, forget_keeps, mutation_keeps}
+use Rattle.cat_events.proofs.Resulted.{finished_alone}
+
+never : (b : Bool) → false ≡ (b && not b)
+never true = refl
+never false = refl
+
+not_false : (b : Bool) → not b ≡ false → b ≡ true
+not_false true h = refl
+not_false false h = absurd (true≢false h)
+
+none_rise : IsStrictlySortedBy text_cmp []
+none_rise = in_order-rises text_total text_antisymmetric []
+
+-- ---- the shelf
+
+module _ (rules : Rules) (m : State) (sound : Sound rules m) (shelf : Shelf) (touched : List Ref) where
+  -- the own change of an event that changes the shelf
+  abbrev shelf_change : OwnChange
+  shelf_change = record { how = Deleted; own = None; inputs = ShelfInputs shelf; claims = None; touched = touched }
+
+  pub shelf_owned : IsOwned shelf_change m (with_shelf shelf m)
+  shelf_owned = record {
+    change = record {
+      records = λ r. refl;
+      orphans = λ r. refl;
+      marks = refl;
+      documents = refl;
+      number = refl;
+      ticket = refl;
+      same_shelf = refl;
+      same_rows = ap (λ (z : State). z.rows) (reheld_stays rules m sound);
+      same_holders = ap (λ (z : State). z.holders) (reheld_stays rules m sound);
+    };
+    providers = refl;
+    arrival = refl;
+    token = refl;
+  }
+
+  -- what isn't touched has the same work over both shelves
+  same_over : touched ≡ filter (reads_other rules shelf m) (keys m.holders) → (r : Ref) → list_any (same_text r) touched ≡ false → held m.holders r ≡ true → work rules m r ≡ work rules (held_state shelf m.rows m.holders m) r
+  same_over et r e before =
+      let among : list_any (same_text r) (keys m.holders) ≡ true = sym (is_some-find text_cmp r m.holders) ∙ before in
+      let passes : (reads_other rules shelf m r && true) ≡ false =
+      sym (has-filter text_total text_antisymmetric (reads_other rules shelf m) r (keys m.holders) ∙ ap (λ b. reads_other rules shelf m r && b) among)
+      ∙ (ap (list_any (same_text r)) (sym et) ∙ e) in
+      same_option-is rules.same_work rules.same_work-is (work rules m r) (work rules (held_state shelf m.rows m.holders m) r) (not_false _ (first (reads_other rules shelf m r) passes))
+    where
+      first : (b : Bool) → (b && true) ≡ false → b ≡ false
+      first true h = h
+      first false h = refl
+
+  pub shelf_reached : touched ≡ filter (reads_other rules shelf m) (keys m.holders) → IsReached rules shelf_change m
+  shelf_reached et = record {
+    come = λ r. never (held m.holders r);
+    left = λ r. never (held m.holders r);
+    left_rise = none_rise;
+    others = λ r e before after. same_over et r e before;
+  }
+
+-- ---- claims
+
+-- what holding makes of these rows, where nothing was held by others before
+abbrev rows_of : Numbered → Holders → Rows
+rows_of z holders = standing z.rows (rehold z.rows holders)
+
+-- where what isn't touched keeps the row that holds it, claims are reached
+claims_reached : (rules : Rules) (m : State) (z : Numbered) (x : Claimed) (touched : List Ref) → IsClaimed x m.holders z
+    → ((r : Ref) → list_any (same_text r) touched ≡ false → held m.holders r ≡ true → held (rehold z.rows m.holders) r ≡ true → holding m.rows m.holders r ≡ holding (rows_of z m.holders) (rehold z.rows m.holders) r)
+    → IsReach rules m (held_state m.shelf x.rows x.holders m) x.fresh x.leaving touched
+claims_reached rules m z x touched are keeps =
+    reach_is rules m x.rows x.holders x.fresh x.leaving touched are.fresh are.leaving are.leaving_rise
+    (λ r e before after. keeps r e before (ap (λ h. held h r) (sym are.holders) ∙ after) ∙ (λ i. holding (sym are.rows i) (sym are.holders i) r))
+
+-- what isn't touched isn't moved, and isn't among the others either
+apart_first : (r : Ref) (moved others : List Ref) → list_any (same_text r) (moved ++ others) ≡ false → list_any (same_text r) moved ≡ false
+apart_first r moved others e = or_false_first _ _ (sym (list_any-append (same_text r) moved others) ∙ e)
+
+apart_second : (r : Ref) (moved others : List Ref) → list_any (same_text r) (moved ++ others) ≡ false → list_any (same_text r) others ≡ false
+apart_second r moved others e = or_false_second _ _ (sym (list_any-append (same_text r) moved others) ∙ e)
+
+-- ---- forgets
+
+module _ (m : State) (r own : Ref) (same : own ≡ r) (x : Claimed) (are : IsClaimed x m.holders (replaced (Entity r) (λ q. None) [] m)) where
+  -- the own change of a forget
+  abbrev forget_change : List Ref → OwnChange
+  forget_change touched = record { how = Deleted; own = Some (record { reference = own; kept = None }); inputs = Same; claims = Some x; touched = touched }
+
+  pub forget_owned : (touched : List Ref) → IsOwned (forget_change touched) m (forgotten r m)
+  forget_owned touched =
+      let n = forgotten r m in
+      let c = subst (λ q. IsOwnChange (Some (record { reference = q; kept = None })) m.shelf (reheld n).rows (reheld n).holders m n) (sym same) (forget_is_own r m) in
+      record {
+        change = record {
+          records = c.records;
+          orphans = c.orphans;
+          marks = refl;
+          documents = refl;
+          number = refl;
+          ticket = refl;
+          same_shelf = refl;
+          same_rows = sym are.rows;
+          same_holders = sym are.holders;
+        };
+        providers = refl;
+        arrival = sym are.arrival;
+        token = refl;
+      }
+
+  pub forget_reached : (rules : Rules) (touched : List Ref) → Sound rules m → touched ≡ x.moved → IsReached rules (forget_change touched) m
+  forget_reached rules touched sound et =
+      claims_reached rules m (replaced (Entity r) (λ q. None) [] m) x touched are
+      (λ q e before after. forget_keeps m sound.offers sound.holders q r before after
+      (ap (λ h. are_others (get m.holders q) (get h q)) (sym are.holders) ∙ (sym (are.moved q) ∙ (ap (list_any (same_text q)) (sym et) ∙ e))))
+
+-- ---- results
+
+module _ (s : Settings) (r : Ref) (now : ℕ) (y : Record) (outcome : Outcome) (m : State) (own : Own) (same : own.reference ≡ r) (kept : own.kept ≡ Some (finished_record s now y outcome)) where
+  abbrev result : State
+  result = finished_state s r now y outcome m
+
+  own_is : own ≡ record { reference = r; kept = Some (finished_record s now y outcome) }
+  own_is i = record { reference = same i; kept = kept i }
+
+  own_change : get m.orphans r ≡ None → IsOwnChange (Some own) m.shelf (reheld result).rows (reheld result).holders m result
+  own_change none = subst (λ o. IsOwnChange (Some o) m.shelf (reheld result).rows (reheld result).holders m result) (sym own_is) (finish_is_own s r now y outcome m none)
+
+  rows_are : {x : Claimed} (o : Outcome) → IsClaimed x m.holders (finished_rows r o m) → (reheld (finished_state s r now y o m)).rows ≡ x.rows
+  rows_are (Good output issues) are = sym are.rows
+  rows_are (Bad issues) are = sym are.rows
+
+  holders_are : {x : Claimed} (o : Outcome) → IsClaimed x m.holders (finished_rows r o m) → (reheld (finished_state s r now y o m)).holders ≡ x.holders
+  holders_are (Good output issues) are = sym are.holders
+  holders_are (Bad issues) are = sym are.holders
+
+  arrival_is : {x : Claimed} (o : Outcome) → IsClaimed x m.holders (finished_rows r o m) → (finished_state s r now y o m).arrival ≡ x.arrival
+  arrival_is (Good output issues) are = sym are.arrival
+  arrival_is (Bad issues) are = sym are.arrival
+
+  finishing_owned : (how : Leaving) (x : Claimed) (touched : List Ref) → get m.orphans r ≡ None → IsClaimed x m.holders (finished_rows own.reference outcome m)
+      → IsOwned (record { how = how; own = Some own; inputs = Same; claims = Some x; touched = touched }) m result
+  finishing_owned how x touched none claimed =
+      let are = subst (λ q. IsClaimed x m.holders (finished_rows q outcome m)) same claimed in
+      let c = own_change none in
+      record {
+        change = record {
+          records = c.records;
+          orphans = c.orphans;
+          marks = c.marks;
+          documents = c.documents;
+          number = c.number;
+          ticket = c.ticket;
+          same_shelf = c.same_shelf;
+          same_rows = rows_are outcome are;
+          same_holders = holders_are outcome are;
+        };
+        providers = refl;
+        arrival = arrival_is outcome are;
+        token = refl;
+      }
+
+  pub finish_owned : (how : Leaving) (z : OwnChange) → get m.orphans r ≡ None → IsFinishing how own outcome m z → IsOwned z m result
+  finish_owned how z none f = subst (λ z. IsOwned z m result) (sym f.is) (finishing_owned how f.claimed (f.claimed.moved ++ offered_refs outcome) none f.are)
+
+  -- what a result doesn't offer, and no other row holds, keeps the row that holds it
+  result_keeps : {rules : Rules} → Sound rules m → (q : Ref) (o : Outcome) → list_any (same_text q) (offered_refs o) ≡ false → held m.holders q ≡ true → held (rehold (finished_rows r o m).rows m.holders) q ≡ true
+      → are_others (get m.holders q) (get (rehold (finished_rows r o m).rows m.holders) q) ≡ false
+      → holding m.rows m.holders q ≡ holding (rows_of (finished_rows r o m) m.holders) (rehold (finished_rows r o m).rows m.holders) q
+  result_keeps sound q (Good output issues) none = finish_keeps m sound.offers sound.holders q s r now y (Good output issues) none
+  result_keeps sound q (Bad issues) none = finish_keeps m sound.offers sound.holders q s r now y (Bad issues) none
+
+  pub finish_reached : (rules : Rules) (how : Leaving) (z : OwnChange) → Sound rules m → IsFinishing how own outcome m z → IsReached rules z m
+  finish_reached rules how z sound f =
+      let are = subst (λ q. IsClaimed f.claimed m.holders (finished_rows q outcome m)) same f.are in
+      subst (λ z. IsReached rules z m) (sym f.is)
+      (claims_reached rules m (finished_rows r outcome m) f.claimed (f.claimed.moved ++ offered_refs outcome) are
+      (λ q e before after. result_keeps sound q outcome (apart_second q f.claimed.moved (offered_refs outcome) e) before after
+      (ap (λ h. are_others (get m.holders q) (get h q)) (sym are.holders) ∙ (sym (are.moved q) ∙ apart_first q f.claimed.moved (offered_refs outcome) e))))
+
+  -- ---- results that leave all rows
+
+  module _ (rules : Rules) (sound : Sound rules m) (again : offers_again (get m.records r) outcome ≡ true) where
+    stays : result ≡ with_record r (finished_record s now y outcome) m
+    stays = finished_alone s r now y outcome m sound.offers sound.rows_in_order again
+
+    held_stays : reheld result ≡ reheld (with_record r (finished_record s now y outcome) m)
+    held_stays = ap reheld stays
+
+    pub alone_owned : (how : Leaving) → get m.orphans r ≡ None → IsOwned (finishing_alone how own) m result
+    alone_owned how none =
+        let c = own_change none in
+        record {
+          change = record {
+            records = c.records;
+            orphans = c.orphans;
+            marks = c.marks;
+            documents = c.documents;
+            number = c.number;
+            ticket = c.ticket;
+            same_shelf = c.same_shelf;
+            same_rows = ap (λ (z : State). z.rows) held_stays ∙ ap (λ (z : State). z.rows) (reheld_stays rules m sound);
+            same_holders = ap (λ (z : State). z.holders) held_stays ∙ ap (λ (z : State). z.holders) (reheld_stays rules m sound);
+          };
+          providers = refl;
+          arrival = ap (λ (z : State). z.arrival) stays;
+          token = refl;
+        }
+
+pub alone_reached : (rules : Rules) (m : State) (how : Leaving) (own : Own) → IsReached rules (finishing_alone how own) m
+alone_reached rules m how own = record {
+  come = λ r. never (held m.holders r);
+  left = λ r. never (held m.holders r);
+  left_rise = none_rise;
+  others = λ r e before after. refl;
+}
+
+-- ---- mutations
+
+module _ (p : Text) (x : Given) (m : State) (items : Offers) (made : items ≡ items_after x (source_at (get m.providers p)).items) (own : OwnChange) (mutating : IsMutating p x items m own) where
+  abbrev source : ProviderInputs
+  source = source_at (get m.providers p)
+
+  abbrev mutated : State
+  mutated = mutated_state p x source m
+
+  mutation_is : IsMutating p x (items_after x source.items) m own
+  mutation_is = subst (λ i. IsMutating p x i m own) made mutating
+
+  pub mutation_owned : IsOwned own m mutated
+  mutation_owned =
+      let f = mutation_is in
+      subst (λ z. IsOwned z m mutated) (sym f.is)
+      (record {
+        change = record {
+          records = λ r. refl;
+          orphans = λ r. refl;
+          marks = refl;
+          documents = refl;
+          number = refl;
+          ticket = refl;
+          same_shelf = refl;
+          same_rows = sym f.are.rows;
+          same_holders = sym f.are.holders;
+        };
+        providers = refl;
+        arrival = sym f.are.arrival;
+        token = refl;
+      })
+
+  pub mutation_reached : (rules : Rules) → Sound rules m → IsReached rules own m
+  mutation_reached rules sound =
+      let f = mutation_is in
+      subst (λ z. IsReached rules z m) (sym f.is)
+      (claims_reached rules m (replaced (Provider p) (get (items_after x source.items)) (keys x.items) m) f.claimed (f.claimed.moved ++ keys x.items) f.are
+      (λ q e before after. mutation_keeps m sound.offers sound.holders q p x (apart_second q f.claimed.moved (keys x.items) e) before after
+      (ap (λ h. are_others (get m.holders q) (get h q)) (sym f.are.holders) ∙ (sym (f.are.moved q) ∙ apart_first q f.claimed.moved (keys x.items) e))))
+
+  pub mutation_how : own.how ≡ Deleted
+  mutation_how = ap (λ (z : OwnChange). z.how) mutating.is
+
+-- ---- what a plan of a result comes to
+
+module _ (s : Settings) (r : Ref) (now : ℕ) (y : Record) (outcome : Outcome) (m : State) (own : Own) (same : own.reference ≡ r) (kept : own.kept ≡ Some (finished_record s now y outcome)) where
+  -- a result's own change, whether it leaves all rows or replaces some
+  pub result_owned : (rules : Rules) (how : Leaving) (z : OwnChange) → Sound rules m → get m.records r ≡ Some y
+      → MatchBool (offers_again (Some y) outcome) (z ≡ finishing_alone how own) (IsFinishing how own outcome m z) → IsOwned z m (finished_state s r now y outcome m) × IsReached rules z m × (z.how ≡ how)
+  result_owned rules how z sound at = go (offers_again (Some y) outcome) refl
+    where
+      none : get m.orphans r ≡ None
+      none = sound.orphans r (sym (sound.records r) ∙ ap is_some at)
+
+      go : (b : Bool) → offers_again (Some y) outcome ≡ b → MatchBool b (z ≡ finishing_alone how own) (IsFinishing how own outcome m z)
+          → IsOwned z m (finished_state s r now y outcome m) × IsReached rules z m × (z.how ≡ how)
+      go true e is = (
+        subst (λ z. IsOwned z m (finished_state s r now y outcome m)) (sym is) (alone_owned s r now y outcome m own same kept rules sound (ap (λ v. offers_again v outcome) at ∙ e) how none),
+        subst (λ z. IsReached rules z m) (sym is) (alone_reached rules m how own),
+        ap (λ (z : OwnChange). z.how) is,
+      )
+      go false e f = (finish_owned s r now y outcome m own same kept how z none f, finish_reached s r now y outcome m own same kept rules how z sound f, ap (λ (z : OwnChange). z.how) f.is)

@@ -1,0 +1,148 @@
+//! What an event comes to, planned: a plan has all that differs after the event, and asks only what the event reaches.
+ghost use Rattle.std.specs.Prelude.{◌≡◌, ◌≤◌, ◌^◌, IfOk};
+ghost use Rattle.cat_model.specs.declared.types.State.{State as StateValue};
+ghost use Rattle.cat_model.specs.Catalogue.{frame};
+ghost use Rattle.cat_frame.specs.Linked.{AreLinked};
+ghost use Rattle.cat_events.specs.Coming.{IsSteady};
+ghost use Rattle.cat_events.specs.Planned.{IsOwned, IsReached, fresh_of, holders_after, leaving_of, planned, rows_after, shelf_after};
+
+use crate::claims::Claimed;
+use cat_frame::change::{Change, Own};
+use cat_frame::following::{Following, plan};
+use cat_hold::layers::Layers;
+use cat_links::links::Links;
+use cat_model::types::{Leaving, ProviderInputs, Row, State};
+use cat_ref::reference::Ref;
+use cat_table::listing::Listing;
+use cat_tree::text::Text;
+use cat_types::table::Table;
+use std::alloc::{AllocError, Global};
+
+/// The table of inputs that is another one after an event.
+#[derive(Drop)]
+pub enum Inputs {
+    Same,
+    Providers(Table<Text, ProviderInputs>),
+    Shelf(Table<Text, Text>),
+}
+
+/// An event's own change: what becomes of records that leave, the reference that it is about, the inputs after it, who holds
+/// what where rows were replaced, and among others all references that are held before and after it with other work.
+#[derive(Drop)]
+pub struct OwnChange {
+    pub how: Leaving,
+    pub own: Option<Own>,
+    pub inputs: Inputs,
+    pub claims: Option<Claimed>,
+    pub touched: Listing<Ref>,
+}
+
+/// All that differs after an event: the inputs, the claims, and what follows.
+#[derive(Drop)]
+pub struct Plan {
+    pub inputs: Inputs,
+    pub claims: Option<Claimed>,
+    pub following: Following,
+}
+
+/// The shelf after an event.
+pub fn shelf_after<'a>(inputs: &'a Inputs, shelf: &'a Table<Text, Text>) -> &'a Table<Text, Text>
+    ensures { result.now ≡ shelf_after inputs.now shelf.now }
+{
+    match inputs {
+        Inputs::Shelf(after) => after,
+        _ => shelf,
+    }
+}
+
+fn rows_after<'a>(claims: &'a Option<Claimed>, rows: &'a Table<u64, Row>) -> &'a Table<u64, Row>
+    ensures { result.now ≡ rows_after claims.now rows.now }
+{
+    match claims {
+        None => rows,
+        Some(claimed) => &claimed.rows,
+    }
+}
+
+fn holders_after<'a>(
+    claims: &'a Option<Claimed>,
+    holders: &'a Table<Ref, u64>,
+) -> &'a Table<Ref, u64>
+    ensures { result.now ≡ holders_after claims.now holders.now }
+{
+    match claims {
+        None => holders,
+        Some(claimed) => &claimed.holders,
+    }
+}
+
+fn fresh_of(claims: &Option<Claimed>) -> &[Ref]
+    ensures { result.now ≡ fresh_of claims.now }
+{
+    match claims {
+        None => &[],
+        Some(claimed) => claimed.fresh.as_slice(),
+    }
+}
+
+fn leaving_of(claims: &Option<Claimed>) -> &[Ref]
+    ensures { result.now ≡ leaving_of claims.now }
+{
+    match claims {
+        None => &[],
+        Some(claimed) => claimed.leaving.as_slice(),
+    }
+}
+
+// What follows from an event's own change.
+fn followed<L: Layers>(
+    alloc: Global,
+    layers: &L,
+    own: &OwnChange,
+    m: &State,
+    links: &Links,
+) -> Result<Following, AllocError>
+    requires steady { IsSteady L.rules links.now m.now }
+    requires reach { IsReached L.rules own.now m.now }
+    ensures state { IfOk result (λ x. (n : StateValue) → IsOwned own.now m.now n → planned (record { inputs = own.now.inputs; claims = own.now.claims; following = x }) m.now ≡ frame L.rules own.now.how m.now n) }
+    ensures linked { IfOk result (λ x. (n : StateValue) → IsOwned own.now m.now n → AreLinked L.rules x.links.after (frame L.rules own.now.how m.now n)) }
+{
+    let change = Change {
+        how: own.how,
+        own: &own.own,
+        m,
+        links,
+        shelf: shelf_after(&own.inputs, &m.shelf),
+        rows: rows_after(&own.claims, &m.rows),
+        holders: holders_after(&own.claims, &m.holders),
+        fresh: fresh_of(&own.claims),
+        leaving: leaving_of(&own.claims),
+        touched: own.touched.as_slice(),
+    };
+    let following = plan(alloc, layers, &change)?;
+    Ok(following)
+}
+
+/// The plan of an event with this own change. It takes all memory that the event wants but for the room in its tables.
+pub fn planned<L: Layers>(
+    alloc: Global,
+    layers: &L,
+    own: OwnChange,
+    m: &State,
+    links: &Links,
+) -> Result<Plan, AllocError>
+    requires steady { IsSteady L.rules links.now m.now }
+    requires reach { IsReached L.rules own m.now }
+    ensures state { IfOk result (λ x. (n : StateValue) → IsOwned own m.now n → planned x m.now ≡ frame L.rules own.how m.now n) }
+    ensures linked { IfOk result (λ x. (n : StateValue) → IsOwned own m.now n → AreLinked L.rules x.following.links.after (frame L.rules own.how m.now n)) }
+    ensures inputs { IfOk result (λ x. x.inputs ≡ own.inputs) }
+    ensures claims { IfOk result (λ x. x.claims ≡ own.claims) }
+{
+    let following = followed(alloc, layers, &own, m, links)?;
+    let OwnChange { inputs, claims, .. } = own;
+    Ok(Plan {
+        inputs,
+        claims,
+        following,
+    })
+}
