@@ -1,3 +1,10 @@
-pub mod Numbered
-pub mod Claimed
-pub mod Walk
+pub mod Renewed
+pub mod Added
+pub mod Lost
+pub mod Levels
+pub mod Outside
+pub mod Released
+pub mod Waits
+pub mod Touched
+pub mod Left
+pub mod Reclaimed

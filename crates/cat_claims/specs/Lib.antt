@@ -1,5 +1,5 @@
-pub mod Claims
-pub mod Waiting
 pub mod Change
-pub mod Kept
-pub mod Turns
+pub mod Claimed
+pub mod Renewed
+pub mod Touched
+pub mod Waiting

@@ -1,41 +1,34 @@
--- The rows that don't hold their reference, and the order in which they are walked.
-use Rattle.std.specs.Prelude.{ℕ, Bool, false, not, nat_eq, List, map, slice_get}
-use Rattle.std.specs.declared.cmp.Ordering.{Ordering}
+-- Which row claims next among those that wait.
+use Rattle.std.specs.Prelude.{◌≡◌, ℕ, ◌-◌, ◌<◌, Bool, true, ◌⊎◌, List, [], ◌∷◌}
 use Rattle.std.specs.declared.option.Option.{Option}
 use Rattle.std.specs.declared.option.Option.TheVariants.{None, Some}
-use Rattle.std.specs.Option.{option_and_then}
-use Rattle.std.specs.Ordering.{nat_cmp, ordering_then}
-use Rattle.std.specs.List.{filter}
-use Rattle.cat_table.specs.Table.{get, keys, tabulate, text_cmp}
-use Rattle.cat_model.specs.declared.types.Row.{Row}
-use Rattle.cat_model.specs.Catalogue.{Holders, Rows, row_at}
-use Rattle.cat_claims.specs.declared.turn.Turn.{Turn}
+use Rattle.std.specs.Ordering.{nat_cmp}
+use Rattle.cat_table.specs.Table.{first, keys}
+use Rattle.cat_table.specs.Rows.{without}
+use Rattle.cat_model.specs.Catalogue.{Holders, Ref, Rows, claim, claims, row_at}
+use Rattle.cat_model.specs.Rows.{Arrivals}
+use Rattle.cat_claims.specs.Change.{among}
 
--- by reference, and then by arrival
-abbrev pub turn_cmp : Turn → Turn → Ordering
-turn_cmp x y = ordering_then (text_cmp x.reference y.reference) (nat_cmp x.arrival y.arrival)
+-- each row that may claim its reference waits
+abbrev pub AllWait : Rows → List ℕ → Holders → Type 0
+AllWait rows waiting holders = (a : ℕ) → claims holders (row_at rows a) ≡ true → among a waiting ≡ true
 
--- whether the row with this arrival is the one that holds
-abbrev pub is_holder : ℕ → Option ℕ → Bool
-is_holder a None = false
-is_holder a (Some b) = nat_eq a b
+-- the first arrival, if there is one
+abbrev pub head_of : Arrivals → Option ℕ
+head_of [] = None
+head_of (e ∷ es) = Some e.0
 
--- whether a row doesn't hold its reference
-abbrev pub waits : Holders → ℕ × Row → Bool
-waits holders e = not (is_holder e.0 (get holders e.1.reference))
+-- the first is taken off, if there is one
+abbrev pub IsPopped : Arrivals → Option ℕ → Arrivals → Type 0
+IsPopped before None left = head_of before ≡ None
+IsPopped before (Some a) left = (head_of before ≡ Some a) × (left ≡ without nat_cmp a before)
 
--- the reference and the arrival of a row
-abbrev pub turn_of : ℕ × Row → Turn
-turn_of e = record { reference = e.1.reference; arrival = e.0 }
+-- the first that passes is found, if any does, and the others that pass are left
+pub record IsFound (passes : ℕ → Bool) (before : List ℕ) (found : Option ℕ) (left : List ℕ) : Type 0 where
+  pub first : found ≡ first passes before
+  pub others : (a : ℕ) → among a before ≡ true → passes a ≡ true → (found ≡ Some a) ⊎ (among a left ≡ true)
 
--- the reference and the arrival of each row that doesn't hold, in order of arrival
-abbrev pub waiting_as_arrived : Rows → Holders → List Turn
-waiting_as_arrived rows holders = map turn_of (filter (waits holders) rows)
-
--- the same, in order of reference and then of arrival
-abbrev pub waiting_turns : Rows → Holders → List Turn
-waiting_turns rows holders = keys (tabulate turn_cmp (waiting_as_arrived rows holders) (λ t. Some (tt {0})))
-
--- the row at a place of that order
-abbrev pub waiting_row : Rows → Holders → ℕ → Option Row
-waiting_row rows holders place = option_and_then (λ t. row_at rows t.arrival) (slice_get (waiting_turns rows holders) place)
+-- a reference was claimed, so that one claim less is left; or none may be claimed
+abbrev pub HasClaimed : Rows → Holders → Option Ref → Holders → Type 0
+HasClaimed rows before (Some r) after = (n : ℕ) → 0 < n → claim (n - 1) rows (keys rows) after ≡ claim n rows (keys rows) before
+HasClaimed rows before None after = (n : ℕ) → after ≡ claim n rows (keys rows) before

@@ -1,232 +1,103 @@
-//! Claims, and plans of their change.
-ghost use Rattle.std.specs.Prelude.{◌≡◌, ◌<◌, ◌≤◌, ◌^◌, ◌↔◌, IfOk, IsNone, length, option_map};
-ghost use Rattle.cat_table.specs.Table.{get};
-ghost use Rattle.cat_model.specs.Catalogue.{holding, row_at};
-ghost use Rattle.cat_claims.specs.Change.{held_by_another, newly_held, no_longer_held};
-ghost use Rattle.cat_claims.specs.Claims.{no_claims, replaced_claims, row_from};
-ghost use Rattle.cat_claims.specs.Kept.{AreClaims};
-ghost use Rattle.cat_claims.specs.Waiting.{waiting_row, waiting_turns};
+//! Who holds what once the rows of one origin were replaced.
+ghost use Rattle.std.specs.Prelude.{◌≡◌, ◌++◌, ◌∷◌, [], IfOk};
+ghost use Rattle.std.specs.List.{filter};
+ghost use Rattle.cat_table.specs.Table.{keys};
+ghost use Rattle.cat_claims.specs.Change.{IsMendable};
+ghost use Rattle.cat_claims.specs.Claimed.{IsClaimed};
+ghost use Rattle.cat_claims.specs.Touched.{is_fresh, is_leaving, is_moved};
 
-use crate::compare::{fresh_refs, leaving_refs, moved_refs};
-use crate::fault::PlanFault;
-use crate::rows::{replaced_tables, row_by};
-use crate::tables::{Change, Tables};
-use crate::turn::Turn;
-use crate::waiting::turns_of;
-use cat_hold::hold::row_of;
-use cat_model::types::{Origin, Row};
+use crate::dropped::drop_all_given;
+use crate::mend::mend;
+use crate::types::{Claimed, Replaced};
 use cat_ref::reference::Ref;
-use cat_table::listing::{Copied, Listing};
-use cat_types::input::Offered;
-use cat_types::table::Table;
+use cat_table::listing::Listing;
+use cat_table::map::Map;
 use std::alloc::{AllocError, Global};
-use std::marker::Model;
 
-const MOST: u64 = 1 << 59;
-
-/// The rows of all origins, and which of them hold. Contracts see them as their tables.
+// The references that are newly held, those that are no longer held, and those that another row holds than before.
 #[derive(Drop)]
-pub struct Claims {
-    tables: Tables,
-    turns: Listing<Turn>,
-}
-
-impl Model for Claims {
-    ghost use Rattle.cat_claims.specs.declared.tables.Tables.{Tables};
-    ghost use Rattle.cat_claims.specs.contracts.tables.Tables.{the_row};
-    ghost use Rattle.cat_claims.specs.Kept.{AreKept};
-
-    ghost Value = { Tables };
-
-    ghost coded = { the_row.coded };
-
-    ghost view = { λ a. a.tables };
-
-    ghost invariant = { λ a. AreKept a.tables a.turns };
-}
-
-/// What becomes of claims where one origin offers something else. Contracts see a plan as its change: the origin, the
-/// tables for which it was made, and those that it comes to.
-#[derive(Drop)]
-pub struct Plan {
-    change: Change,
-    turns: Listing<Turn>,
+struct Changed {
     fresh: Listing<Ref>,
-    moved: Listing<Ref>,
     leaving: Listing<Ref>,
+    moved: Listing<Ref>,
 }
 
-impl Model for Plan {
-    ghost use Rattle.cat_claims.specs.declared.tables.Change.{Change};
-    ghost use Rattle.cat_claims.specs.contracts.tables.Change.{the_row};
-    ghost use Rattle.cat_claims.specs.Kept.{IsPlan};
-
-    ghost Value = { Change };
-
-    ghost coded = { the_row.coded };
-
-    ghost view = { λ a. a.change };
-
-    ghost invariant = { λ a. IsPlan a.change a.turns a.fresh a.moved a.leaving };
-}
-
-fn planned(alloc: Global, change: Change) -> Result<Plan, AllocError>
-    requires { AreClaims change.after }
-    ensures { IfOk result (λ p. p ≡ change) }
+// A reference goes where its holders before and after say, if anywhere.
+fn note(
+    reference: Ref,
+    before: &Map<Ref, u64>,
+    after: &Map<Ref, u64>,
+    changed: &mut Changed,
+) -> Result<(), AllocError>
+    ensures fresh { IfOk result (λ _. changed.new.fresh ≡ changed.old.fresh ++ filter (is_fresh before.now after.now) (reference ∷ [])) }
+    ensures leaving { IfOk result (λ _. changed.new.leaving ≡ changed.old.leaving ++ filter (is_leaving before.now after.now) (reference ∷ [])) }
+    ensures moved { IfOk result (λ _. changed.new.moved ≡ changed.old.moved ++ filter (is_moved before.now after.now) (reference ∷ [])) }
 {
-    let before = &change.before.holders;
-    let after = &change.after.holders;
-    let turns = turns_of(alloc, &change.after)?;
-    let fresh = fresh_refs(alloc, before, after)?;
-    let moved = moved_refs(alloc, before, after)?;
-    let leaving = leaving_refs(alloc, before, after)?;
-    Ok(Plan {
-        change,
-        turns,
-        fresh,
-        moved,
-        leaving,
+    match before.get(&reference) {
+        None => match after.get(&reference) {
+            None => Ok(()),
+            Some(_) => changed.fresh.push(reference),
+        },
+        Some(old) => match after.get(&reference) {
+            None => changed.leaving.push(reference),
+            Some(new) => {
+                if *old == *new {
+                    Ok(())
+                } else {
+                    changed.moved.push(reference)
+                }
+            }
+        },
+    }
+}
+
+// Which of these references are newly held, which are no longer held, and which another row holds, in order.
+fn sort_out(
+    alloc: Global,
+    touched: &Map<Ref, ()>,
+    before: &Map<Ref, u64>,
+    after: &Map<Ref, u64>,
+) -> Result<Changed, AllocError>
+    ensures fresh { IfOk result (λ x. x.fresh ≡ filter (is_fresh before.now after.now) (keys touched.now)) }
+    ensures leaving { IfOk result (λ x. x.leaving ≡ filter (is_leaving before.now after.now) (keys touched.now)) }
+    ensures moved { IfOk result (λ x. x.moved ≡ filter (is_moved before.now after.now) (keys touched.now)) }
+{
+    let refs = touched.keys(alloc)?;
+    let mut changed = Changed {
+        fresh: Listing::new(alloc),
+        leaving: Listing::new(alloc),
+        moved: Listing::new(alloc),
+    };
+    for reference in refs.into_vec() {
+        note(reference, before, after, &mut changed)?;
+    }
+    Ok(changed)
+}
+
+/// The rules of holding are applied to rows of which those of one origin were replaced: what has lost its row, and all that
+/// hangs below it, is released; then the new rows and those of what was released claim, the least arrival first; and the rows
+/// of what isn't held any more go.
+pub fn reclaimed(
+    alloc: Global,
+    replaced: Replaced,
+    holders: &Map<Ref, u64>,
+) -> Result<Claimed, AllocError>
+    requires { IsMendable replaced holders.now }
+    ensures { IfOk result (λ x. IsClaimed x holders.now replaced.numbered) }
+{
+    let mut after = holders.share()?;
+    let touched = mend(alloc, &replaced, &mut after)?;
+    touched.in_order();
+    let changed = sort_out(alloc, &touched, holders, &after)?;
+    let numbered = replaced.numbered;
+    let mut rows = numbered.rows;
+    drop_all_given(alloc, changed.leaving.as_slice(), &mut rows)?;
+    Ok(Claimed {
+        rows,
+        holders: after,
+        arrival: numbered.next,
+        fresh: changed.fresh,
+        leaving: changed.leaving,
+        moved: changed.moved,
     })
-}
-
-impl Claims {
-    /// No rows; the first one will be numbered 1. Takes no memory.
-    pub fn empty(alloc: Global) -> Claims
-        ensures { result ≡ no_claims }
-    {
-        Claims {
-            tables: Tables {
-                rows: Table::new(alloc),
-                holders: Table::new(alloc),
-                arrival: 1,
-            },
-            turns: Listing::new(alloc),
-        }
-    }
-
-    /// The row with this arrival.
-    pub fn at(&self, arrival: u64) -> Option<&Row>
-        ensures { option_map (λ x. x.now) result ≡ row_at self.now.rows arrival }
-    {
-        self.tables.rows.get(&arrival)
-    }
-
-    /// The row of an origin for a reference; there is one at most.
-    pub fn row(&self, origin: &Origin, reference: &Ref) -> Option<&Row>
-        ensures { option_map (λ x. x.now) result ≡ row_from self.now.rows origin.now reference.now }
-    {
-        row_by(&self.tables.rows, origin, reference)
-    }
-
-    /// The arrival of the next new row.
-    pub fn next_arrival(&self) -> u64
-        ensures arrival { result ≡ self.now.arrival }
-        ensures claims { AreClaims self.now }
-    {
-        self.tables.arrival
-    }
-
-    /// The row that holds a reference.
-    pub fn holder(&self, reference: &Ref) -> Option<&Row>
-        ensures { option_map (λ x. x.now) result ≡ holding self.now.rows self.now.holders reference.now }
-    {
-        row_of(&self.tables.rows, &self.tables.holders, reference)
-    }
-
-    /// The row at this place, from 0, among those that don't hold, in order of reference and then of arrival; none where
-    /// fewer rows wait.
-    pub fn waiting(&self, place: u64) -> Option<&Row>
-        ensures row { option_map (λ x. x.now) result ≡ waiting_row self.now.rows self.now.holders place }
-        ensures end { IsNone result ↔ (length (waiting_turns self.now.rows self.now.holders) ≤ place) }
-    {
-        match self.turns.as_slice().get(place as usize) {
-            Some(turn) => self.tables.rows.get(&turn.arrival),
-            None => None,
-        }
-    }
-
-    /// What becomes of the claims once this origin offers just these, where its new rows are numbered in the given order. A
-    /// row keeps its arrival where its reference is still offered with its key; an offer without a row gets one if its
-    /// reference is in the order. Then the rules of holding are applied, and rows of entities that aren't held go. Of two
-    /// offers for one reference the first counts. Want of memory may come in place of `Spent`.
-    pub fn plan_replace(
-        &self,
-        alloc: Global,
-        origin: &Origin,
-        offers: &Table<Ref, Offered>,
-        order: &[Ref],
-    ) -> Result<Plan, PlanFault>
-        ensures origin { IfOk result (λ p. p.origin ≡ origin.now) }
-        ensures before { IfOk result (λ p. p.before ≡ self.now) }
-        ensures after { IfOk result (λ p. p.after ≡ replaced_claims origin.now offers.now order.now self.now) }
-        ensures fits { IfOk result (λ p. p.after.arrival ≤ 2 ^ 59) }
-        ensures spent { result ≡ Err PlanFault.Spent → 2 ^ 59 < (replaced_claims origin.now offers.now order.now self.now).arrival }
-    {
-        let after = replaced_tables(alloc, origin, offers, order, &self.tables)?;
-        if after.arrival > MOST {
-            return Err(PlanFault::Spent);
-        }
-        let change = Change {
-            origin: origin.duplicate(alloc)?,
-            before: self.tables.duplicate(alloc)?,
-            after,
-        };
-        Ok(planned(alloc, change)?)
-    }
-
-    /// The plan comes true. It is to be applied to the claims for which it was made. Takes no memory.
-    pub fn apply(&mut self, plan: Plan)
-        requires { self.old ≡ plan.before }
-        ensures { self.new ≡ plan.after }
-    {
-        let turns = plan.turns;
-        let change = plan.change;
-        let tables = change.after;
-        *self = Claims { tables, turns };
-    }
-}
-
-impl Plan {
-    /// The references that aren't held now and will be, in order.
-    pub fn fresh(&self) -> &[Ref]
-        ensures { result.now ≡ newly_held self.now.before.holders self.now.after.holders }
-    {
-        self.fresh.as_slice()
-    }
-
-    /// The references that are held now and will be by another row, in order.
-    pub fn moved(&self) -> &[Ref]
-        ensures { result.now ≡ held_by_another self.now.before.holders self.now.after.holders }
-    {
-        self.moved.as_slice()
-    }
-
-    /// The references that are held now and won't be, in order.
-    pub fn leaving(&self) -> &[Ref]
-        ensures { result.now ≡ no_longer_held self.now.before.holders self.now.after.holders }
-    {
-        self.leaving.as_slice()
-    }
-
-    /// The row that the origin will have for a reference; there is one at most.
-    pub fn row(&self, reference: &Ref) -> Option<&Row>
-        ensures { option_map (λ x. x.now) result ≡ row_from self.now.after.rows self.now.origin reference.now }
-    {
-        row_by(&self.change.after.rows, &self.change.origin, reference)
-    }
-
-    /// The arrival of the row that will hold a reference.
-    pub fn holder(&self, reference: &Ref) -> Option<u64>
-        ensures { result ≡ get self.now.after.holders reference.now }
-    {
-        self.change.after.holders.get(reference).copied()
-    }
-
-    /// The arrival of the next new row after this plan.
-    pub fn next_arrival(&self) -> u64
-        ensures arrival { result ≡ self.now.after.arrival }
-        ensures claims { AreClaims self.now.after }
-    {
-        self.change.after.arrival
-    }
 }

@@ -1,19 +1,14 @@
-//! The claims of origins on references: which rows there are, which of them hold, and what becomes of that where an
-//! origin offers something else.
+//! Who holds what where the rows of one origin are replaced, at the cost of what that reaches.
 //!
-//! It stands on the abstract catalogue and on the functions that replace the rows of an origin and apply the rules of
-//! holding.
-//!
-//! The promise: a plan comes to just the rows, the holders and the next arrival that the abstract catalogue has after that
-//! replacement, its lists are exactly the references whose holder changes, and it is applied without memory. Apart
-//! from want of memory, a plan is refused only where it would draw an arrival of 2^59 or more.
+//! It stands on the abstract catalogue and on the laws of mending. The promise: the rows, the holders and the references whose holder
+//! changes are those that the rules of holding give for all rows, though only the rows of the references whose offers change are looked at,
+//! and what hangs below those that lose their row.
 #![tactic(auto)]
 
 pub mod claims;
-mod compare;
-pub mod fault;
-mod order;
-mod rows;
-pub mod tables;
-pub mod turn;
+mod cut;
+mod dropped;
+mod mend;
+pub mod replaced;
+pub mod types;
 mod waiting;

@@ -3,6 +3,7 @@ pub mod Empty
 pub mod Firsts
 pub mod Marks
 pub mod Mutated
+pub mod Nearer
 pub mod Nearest
 pub mod Numbers
 pub mod Settles

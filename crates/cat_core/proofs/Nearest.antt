@@ -26,5 +26,5 @@ module _ (m : State) (after : Option RowPlace) where
       let same = and_swapped (is_above place_cmp after (place_of e)) (is_some (waits m e.0 (Some e.1))) ∙ ap (λ v. is_some (waits m e.0 v) && is_above place_cmp after (place_of e)) (sym h.0) in
       λ i. nearer place_cmp (same i) (place_of e) (nearest_held es h.1 i)
 
-  pub nearest_is : is_sorted nat_cmp m.rows ≡ true → (rows : List (ℕ × Row)) → rows ≡ m.rows → nearest m after rows ≡ next_waiting m after
-  nearest_is h rows is = ap (nearest m after) is ∙ nearest_held m.rows (are_held nat_cmp_total nat_cmp-IsAntisymmetric m.rows h)
+  pub nearest_is : is_sorted nat_cmp m.rows ≡ true → nearest m after m.rows ≡ next_waiting m after
+  nearest_is h = nearest_held m.rows (are_held nat_cmp_total nat_cmp-IsAntisymmetric m.rows h)

@@ -90,10 +90,10 @@ module _ {K X : Type 0} {R : K → K → Ordering} (o : IsTotalOrder R) (s : IsA
   first_key [] = refl
   first_key (e ∷ es) = refl
 
-place_total : IsTotalOrder place_cmp
+pub place_total : IsTotalOrder place_cmp
 place_total = then_total (on_total (λ (k : RowPlace). k.0) text_total) (on_total (λ (k : RowPlace). k.1) nat_cmp_total)
 
-place_antisymmetric : IsAntisymmetric place_cmp
+pub place_antisymmetric : IsAntisymmetric place_cmp
 place_antisymmetric x y h = go (text_cmp x.0 y.0) refl h
   where
     go : (r : Ordering) → text_cmp x.0 y.0 ≡ r → ordering_then r (nat_cmp x.1 y.1) ≡ Equal → x ≡ y

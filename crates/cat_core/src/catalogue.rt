@@ -35,6 +35,7 @@ use cat_events::stitch::put_stitch;
 use cat_hold::hold::row_of;
 use cat_hold::layers::Layers;
 use cat_links::links::Links;
+use cat_model::rows::IndexedRows;
 use cat_model::types::{
     Acted, Counts, Fault, Finished, Order, Placed, Progress, Row, Settings, State, StateCounts,
     StitchOrder, Stop,
@@ -42,6 +43,7 @@ use cat_model::types::{
 use cat_ref::reference::Ref;
 use cat_settle::settle::settled;
 use cat_table::listing::{Copied, Listing};
+use cat_table::map::Map;
 use cat_tree::text::Text;
 use cat_types::input::Mutation;
 use cat_types::issue::Issue;
@@ -101,8 +103,8 @@ fn empty_state(alloc: Global) -> State
     State {
         providers: Table::new(alloc),
         shelf: Table::new(alloc),
-        rows: Table::new(alloc),
-        holders: Table::new(alloc),
+        rows: IndexedRows::new(),
+        holders: Map::new(),
         records: Table::new(alloc),
         orphans: Table::new(alloc),
         marks: Table::new(alloc),

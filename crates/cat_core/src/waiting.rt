@@ -8,6 +8,7 @@ ghost use Rattle.cat_model.specs.Reply.{place_cmp, waiting, waits};
 ghost use Rattle.cat_core.specs.Least.{nearer};
 ghost use Rattle.cat_core.specs.Waits.{is_above, nearest, next_waiting, place_of, waits_at};
 
+use cat_model::rows::IndexedRows;
 use cat_model::types::{Row, State};
 use cat_table::key::Key;
 use std::cmp::Ordering;
@@ -85,16 +86,13 @@ fn nearer<'a>(
 // Of these rows, the next that waits, or the first.
 fn nearest<'a>(
     m: &State,
-    rows: &'a [(u64, Row)],
+    rows: &'a IndexedRows,
     after: Option<&(u64, Row)>,
 ) -> Option<&'a (u64, Row)>
     ensures { option_map (λ e. place_of e.now) result ≡ nearest m.now (option_map (λ e. place_of e.now) after.entry) rows.now }
 {
     let mut best = None;
-    let mut left = rows.len();
-    while left > 0 {
-        left -= 1;
-        let row = &rows[left];
+    for row in rows.iter() {
         best = nearer(comes_after(m, after, row), row, best);
     }
     best
@@ -105,7 +103,7 @@ fn next_waiting<'a>(m: &'a State, after: Option<&(u64, Row)>) -> Option<&'a (u64
     requires { IsTrue (is_sorted nat_cmp m.now.rows) }
     ensures { option_map (λ e. place_of e.now) result ≡ next_waiting m.now (option_map (λ e. place_of e.now) after.entry) }
 {
-    nearest(m, m.rows.as_slice(), after)
+    nearest(m, &m.rows, after)
 }
 
 fn next_after<'a>(m: &'a State, found: Option<&'a (u64, Row)>) -> Option<&'a (u64, Row)>

@@ -25,8 +25,8 @@ use Rattle.cat_model.specs.declared.types.State.{State}
 use Rattle.cat_model.specs.Catalogue.{Holders, Offers, Ref, Rows, held, holding, rehold, reheld, row_at, standing}
 use Rattle.cat_model.specs.Sound.{AreHolders, AreOffers, offered}
 use Rattle.cat_model.specs.Step.{add_offer, add_offers, finished_state, forgotten, has_row, items_after, mutated_state, offered_again, put_all, replaced, row_after, same_origin, source_at, without}
-use Rattle.cat_events.specs.Claimed.{are_others}
-use Rattle.cat_events.specs.Mutating.{offered_refs}
+use Rattle.cat_claims.specs.Claimed.{are_others}
+use Rattle.cat_events.specs.OwnChanges.{offered_refs}
 use Rattle.cat_laws.proofs.Holding.{reheld_holders, stood}
 use Rattle.cat_laws.proofs.Replaced.{same_origin-is}
 
@@ -112,7 +112,7 @@ module _ (o : Origin) (offers : Ref → Option Offered) where
 
 -- ---- a mutation's items
 
-put_all_stay : (es items : Offers) (r : Ref) → list_any (same_text r) (keys es) ≡ false → get (put_all es items) r ≡ get items r
+pub put_all_stay : (es items : Offers) (r : Ref) → list_any (same_text r) (keys es) ≡ false → get (put_all es items) r ≡ get items r
 put_all_stay [] items r h = refl
 put_all_stay (e ∷ es) items r h =
     find-put_other text_total text_antisymmetric r e.0 e.1 (put_all es items) (or_false_first (same_text r e.0) _ h) ∙ put_all_stay es items r (or_false_second (same_text r e.0) _ h)

@@ -1,12 +1,11 @@
 -- The own changes of events, and what they reach.
-use Rattle.std.proofs.Common.{T, ◌≡◌, ℕ, Bool, true, false, cond, not, ◌&&◌, ◌||◌, List, [], ◌++◌, MatchBool, refl, sym, ap, subst, ◌∙◌, is_some, true≢false}
-use Rattle.std.specs.declared.option.Option.{Option}
+use Rattle.std.proofs.Common.{◌≡◌, ℕ, Bool, true, false, not, ◌&&◌, List, [], ◌++◌, MatchBool, refl, sym, ap, subst, ◌∙◌, is_some, true≢false}
 use Rattle.std.specs.declared.option.Option.TheVariants.{None, Some}
 use Rattle.std.specs.List.{filter, list_any}
 use Rattle.std.specs.List.Sorted.{IsStrictlySortedBy}
 use Rattle.std.proofs.lemmas.List.Folds.{list_any-append}
 use Rattle.std.specs.FinMap.Entries.{is_some-find}
-use Rattle.cat_table.specs.Table.{Map, Text, get, keys, put, same_text, text_cmp}
+use Rattle.cat_table.specs.Table.{Text, get, keys, same_text, text_cmp}
 use Rattle.cat_table.proofs.Orders.{has-filter, in_order-rises}
 use Rattle.cat_table.proofs.Tables.{or_false_first, or_false_second, text_antisymmetric, text_total}
 use Rattle.cat_types.specs.declared.work.Outcome.{Outcome}
@@ -20,22 +19,22 @@ use Rattle.cat_model.specs.declared.types.ProviderInputs.{ProviderInputs}
 use Rattle.cat_model.specs.declared.types.Record.{Record}
 use Rattle.cat_model.specs.declared.types.Settings.{Settings}
 use Rattle.cat_model.specs.declared.types.State.{State}
-use Rattle.cat_model.specs.Catalogue.{Holders, Offers, Ref, Rows, Rules, Shelf, held, holding, rehold, reheld, same_option, standing, work}
-use Rattle.cat_model.specs.Sound.{AreOffers, Sound}
+use Rattle.cat_model.specs.Catalogue.{Holders, Offers, Ref, Rows, Rules, Shelf, held, holding, rehold, reheld, standing, work}
+use Rattle.cat_model.specs.Sound.{Sound}
 use Rattle.cat_model.specs.Step.{finished_record, finished_rows, finished_state, forgotten, items_after, mutated_state, replaced, source_at, with_record}
 use Rattle.cat_laws.proofs.Alone.{reheld_stays}
 use Rattle.cat_laws.proofs.Frame.{same_option-is}
 use Rattle.cat_frame.specs.Following.{IsOwnChange, IsReach, held_state}
 use Rattle.cat_frame.specs.declared.change.Own.{Own}
 use Rattle.cat_frame.proofs.Owned.{finish_is_own, forget_is_own, reach_is}
-use Rattle.cat_events.specs.Claimed.{IsClaimed, are_others}
-use Rattle.cat_events.specs.Mutating.{IsFinishing, IsMutating, finishing_alone, offered_refs}
+use Rattle.cat_claims.specs.Claimed.{IsClaimed, are_others}
+use Rattle.cat_events.specs.OwnChanges.{IsFinishing, IsMutating, finishing_alone, offered_refs}
 use Rattle.cat_events.specs.Planned.{IsOwned, IsReached}
 use Rattle.cat_events.specs.Shelf.{reads_other, with_shelf}
-use Rattle.cat_events.specs.declared.claims.Claimed.{Claimed}
-use Rattle.cat_events.specs.declared.plan.Inputs.TheVariants.{Same, Providers, Shelf as ShelfInputs}
+use Rattle.cat_claims.specs.declared.types.Claimed.{Claimed}
+use Rattle.cat_events.specs.declared.plan.Inputs.TheVariants.{Same, Shelf as ShelfInputs}
 use Rattle.cat_events.specs.declared.plan.OwnChange.{OwnChange}
-use Rattle.cat_events.specs.Alone.{offers_again}
+use Rattle.cat_events.specs.Again.{offers_again}
 use Rattle.cat_events.proofs.Held.{finish_keeps, forget_keeps, mutation_keeps}
 use Rattle.cat_events.proofs.Resulted.{finished_alone}
 

@@ -10,7 +10,7 @@ use Rattle.cat_table.specs.Table.{get, keys, same_text, text_cmp, text_total, te
 use Rattle.cat_table.proofs.Orders.{keys_rise}
 use Rattle.cat_table.proofs.Tables.{same_is, same_self}
 use Rattle.cat_model.specs.Catalogue.{Holders, Ref, held}
-use Rattle.cat_events.specs.Claimed.{are_others, held_by_another, newly_held}
+use Rattle.cat_claims.specs.Claimed.{are_others, held_by_another, newly_held}
 
 -- the reference is below each of these
 abbrev IsBelow : Ref → List Ref → Type 0

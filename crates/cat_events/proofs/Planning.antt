@@ -1,10 +1,10 @@
 -- What a plan makes of a state.
-use Rattle.std.proofs.Common.{◌≡◌, ◌∙◌, sym}
+use Rattle.std.proofs.Common.{◌≡◌, sym}
 use Rattle.cat_model.specs.declared.types.State.{State}
 use Rattle.cat_model.specs.Catalogue.{reheld}
 use Rattle.cat_frame.specs.Followed.{followed}
 use Rattle.cat_frame.specs.declared.following.Following.{Following}
-use Rattle.cat_events.specs.Planned.{IsOwned, arrival_after, given_by, holders_after, planned, providers_after, rows_after, shelf_after}
+use Rattle.cat_events.specs.Planned.{IsOwned, given_by}
 use Rattle.cat_events.specs.declared.plan.OwnChange.{OwnChange}
 
 -- what follows is put into the state with the inputs and the claims, as into the state that holding makes of an event's own change

@@ -1,36 +1,24 @@
 -- What a result comes to.
-use Rattle.std.proofs.Common.{T, ◌≡◌, ℕ, suc, ◌+◌, ◌≤◌, ◌^◌, Bool, true, false, cond, not, ◌&&◌, ◌||◌, List, [], ◌∷◌, ◌++◌, length, refl, sym, ap, subst, ◌∙◌, is_some, nat_cmp, nat_lt, unwrap_or, arith, true≢false, IfOk}
+use Rattle.std.proofs.Common.{T, ◌≡◌, ℕ, ◌+◌, ◌≤◌, ◌^◌, Bool, true, false, cond, ◌&&◌, List, [], ◌∷◌, refl, sym, ap, ◌∙◌, nat_cmp, nat_lt, unwrap_or, arith, true≢false}
 use Rattle.std.specs.declared.option.Option.{Option}
 use Rattle.std.specs.declared.option.Option.TheVariants.{None, Some}
-use Rattle.std.specs.declared.result.Result.{Result}
-use Rattle.std.specs.declared.result.Result.TheVariants.{Ok, Err}
-use Rattle.std.specs.Bool.{beq}
 use Rattle.std.specs.Option.{option_and_then}
-use Rattle.std.specs.Cmp.{both_ways, nat_cmp_total}
+use Rattle.std.specs.Cmp.{nat_cmp_total}
 use Rattle.std.specs.FinMap.{nat_cmp-IsAntisymmetric}
 use Rattle.std.specs.FinMap.Entries.{is_sorted, same_entries}
-use Rattle.std.specs.List.{filter, list_any}
-use Rattle.std.specs.List.Sorted.{IsStrictlySortedBy}
-use Rattle.std.proofs.lemmas.List.Folds.{list_any-append}
 use Rattle.std.proofs.lemmas.Bool.Decides.{nat_tests}
 use Rattle.cat_tree.proofs.Equality.{is_same-true}
-use Rattle.cat_table.specs.Table.{Map, get, keys, over, put, puts, same_text, text_cmp}
+use Rattle.cat_table.specs.Table.{Map, get, keys, over, put, same_text}
 use Rattle.cat_types.specs.declared.input.Offered.{Offered}
 use Rattle.cat_types.specs.declared.work.Outcome.{Outcome}
 use Rattle.cat_types.specs.declared.work.Outcome.TheVariants.{Good, Bad}
 use Rattle.cat_types.specs.declared.work.Output.{Output}
 use Rattle.cat_table.specs.Order.{in_order}
-use Rattle.cat_table.proofs.Orders.{has-in_order, in_order-rises}
-use Rattle.cat_table.proofs.Tables.{text_total, text_antisymmetric, and_first, and_second, find-over, find-put_other, find-put_same, is_sorted-tabulate, same_is, same_self}
-use Rattle.cat_links.specs.Changes.{AreChanged, with_emitter}
-use Rattle.cat_links.proofs.Counted.{emitted-with_emitter, sorted-with_emitter}
-use Rattle.cat_links.specs.Links.{Emitted, emitted_by}
-use Rattle.cat_model.specs.declared.types.Fault.{Fault}
+use Rattle.cat_table.proofs.Tables.{text_total, text_antisymmetric, and_first, and_second, find-over, is_sorted-tabulate, same_is, same_self}
 use Rattle.cat_model.specs.declared.types.Fault.TheVariants.{Spent}
 use Rattle.cat_model.specs.declared.types.Counter.{Counter}
 use Rattle.cat_model.specs.declared.types.Counter.TheVariants.{Arrival, Number, Token, Ticket}
 use Rattle.cat_model.specs.declared.types.Numbered.{Numbered}
-use Rattle.cat_model.specs.declared.types.Leaving.{Leaving}
 use Rattle.cat_model.specs.declared.types.Order.{Order}
 use Rattle.cat_model.specs.declared.types.Origin.{Origin}
 use Rattle.cat_model.specs.declared.types.Origin.TheVariants.{Entity}
@@ -38,23 +26,15 @@ use Rattle.cat_model.specs.declared.types.Record.{Record}
 use Rattle.cat_model.specs.declared.types.Row.{Row}
 use Rattle.cat_model.specs.declared.types.Settings.{Settings}
 use Rattle.cat_model.specs.declared.types.State.{State}
-use Rattle.cat_model.specs.Catalogue.{Ref, Rows, Rules, changed_refs, emits, frame, output_of, row_at, same_option, tickets}
-use Rattle.cat_model.specs.Sound.{AreOffers, AreOrdered, AreSmall, Sound, offered}
-use Rattle.cat_model.specs.Step.{Event, add_offer, add_offers, fault_where, finish, finished_record, finished_rows, finished_state, has_row, leaving, is_offer, offered_again, or_else, row_after, same_origin, spent, with_record}
+use Rattle.cat_model.specs.Catalogue.{Ref, Rows, Rules, frame, row_at}
+use Rattle.cat_model.specs.Sound.{AreOffers, AreSmall, offered}
+use Rattle.cat_model.specs.Step.{add_offer, add_offers, fault_where, finish, finished_record, finished_rows, finished_state, has_row, leaving, is_offer, offered_again, or_else, row_after, same_origin, spent, with_record}
 use Rattle.cat_model.specs.Step.Event.{Finish}
-use Rattle.cat_laws.proofs.Alone.{alone_framed}
 use Rattle.cat_laws.proofs.Replaced.{same_origin-is}
-use Rattle.cat_laws.proofs.Steps.{other_way}
-use Rattle.cat_frame.specs.Linked.{AreLinked, AreRecorded, LeavesOthers, TouchesOnly, moved, same_sort}
-use Rattle.cat_frame.proofs.Linking.{changed_alone}
-use Rattle.cat_frame.proofs.Partly.{parts_are}
-use Rattle.cat_events.specs.Alone.{is_present_order, kept_offers, offers_again, output_offers, same_offer, same_offers}
-use Rattle.cat_events.specs.Coming.{HasCome, IsSteady, came_fault, came_state, state_after}
+use Rattle.cat_events.specs.Again.{is_present_order, kept_offers, offers_again, output_offers, same_offer, same_offers}
 use Rattle.cat_events.specs.Stepped.{come_to, stepped}
-use Rattle.cat_events.proofs.Comes.{steady_step}
-use Rattle.cat_events.proofs.Indexed.{row_shows}
-use Rattle.cat_events.specs.declared.stepped.Stepped.{Stepped}
-use Rattle.cat_events.specs.declared.stepped.Stepped.TheVariants.{Refused, Acts}
+use Rattle.cat_events.proofs.Shown.{row_shows}
+use Rattle.cat_events.specs.declared.stepped.Stepped.TheVariants.{Acts}
 
 both_true : (a b : Bool) → a ≡ true → b ≡ true → (a && b) ≡ true
 both_true true b p q = q

@@ -1,8 +1,6 @@
 pub mod Planned
 pub mod Shelf
-pub mod Claimed
-pub mod Mutating
+pub mod OwnChanges
 pub mod Stepped
 pub mod Coming
-pub mod Alone
-pub mod Indexed
+pub mod Again

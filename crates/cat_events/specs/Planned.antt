@@ -1,11 +1,8 @@
 -- What an event plans, and what the plan makes of a state.
-use Rattle.std.specs.Prelude.{◌≡◌, ⊤, ℕ, List, []}
+use Rattle.std.specs.Prelude.{◌≡◌, ℕ, List, []}
 use Rattle.std.specs.declared.option.Option.{Option}
 use Rattle.std.specs.declared.option.Option.TheVariants.{None, Some}
-use Rattle.std.specs.declared.result.Result.{Result}
-use Rattle.std.specs.declared.result.Result.TheVariants.{Ok, Err}
-use Rattle.cat_table.specs.Table.{Map, Text}
-use Rattle.cat_links.specs.Links.{Emitted}
+use Rattle.cat_table.specs.Table.{Map}
 use Rattle.cat_model.specs.declared.types.ProviderInputs.{ProviderInputs}
 use Rattle.cat_model.specs.declared.types.Record.{Record}
 use Rattle.cat_model.specs.declared.types.Orphan.{Orphan}
@@ -14,10 +11,8 @@ use Rattle.cat_model.specs.Catalogue.{Holders, Ref, Rows, Rules, Shelf}
 use Rattle.cat_frame.specs.Amended.{amended}
 use Rattle.cat_frame.specs.Followed.{followed}
 use Rattle.cat_frame.specs.Following.{IsOwnChange, IsReach, held_state}
-use Rattle.cat_frame.specs.Linked.{AreLinked}
 use Rattle.cat_frame.specs.declared.amended.Amendment.{Amendment}
-use Rattle.cat_frame.specs.declared.change.Own.{Own}
-use Rattle.cat_events.specs.declared.claims.Claimed.{Claimed}
+use Rattle.cat_claims.specs.declared.types.Claimed.{Claimed}
 use Rattle.cat_events.specs.declared.plan.Inputs.{Inputs}
 use Rattle.cat_events.specs.declared.plan.Inputs.TheVariants.{Same, Providers, Shelf as ShelfInputs}
 use Rattle.cat_events.specs.declared.plan.OwnChange.{OwnChange}

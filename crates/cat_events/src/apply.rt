@@ -5,8 +5,8 @@ ghost use Rattle.cat_table.specs.Table.{text_cmp};
 ghost use Rattle.cat_model.specs.Sound.{AreOrdered};
 ghost use Rattle.cat_events.specs.Planned.{given_by, planned, with_marks, with_orphans, with_records, without_documents};
 
-use crate::claims::Claimed;
 use crate::plan::{Inputs, Plan};
+use cat_claims::types::Claimed;
 use cat_frame::amended::Amendment;
 use cat_links::links::Links;
 use cat_model::types::{Orphan, Record, State};

@@ -1,4 +1,4 @@
-//! Shelf changes, refreshes and forgets.
+//! Shelf changes and forgets.
 ghost use Rattle.std.specs.Prelude.{◌≡◌, ◌≤◌, ◌^◌, IfOk, IsTrue, Option, Bool, [], is_some, not, option_map};
 ghost use Rattle.std.specs.declared.option.Option.TheVariants.{None, Some};
 ghost use Rattle.std.specs.FinMap.Entries.{is_sorted};
@@ -11,25 +11,25 @@ ghost use Rattle.cat_model.specs.declared.types.Origin.TheVariants.{Entity};
 ghost use Rattle.cat_model.specs.Catalogue.{frame, same_option, work};
 ghost use Rattle.cat_model.specs.Step.{forgotten, replaced, without_key};
 ghost use Rattle.cat_model.specs.Step.Event.{Forget, ShelfDrop, ShelfPut};
-ghost use Rattle.cat_events.specs.Claimed.{IsClaimed};
+ghost use Rattle.cat_claims.specs.Claimed.{IsClaimed};
 ghost use Rattle.cat_events.specs.Coming.{HasCome, IsLinkedStep, IsSteady, seen};
 ghost use Rattle.cat_events.specs.Planned.{planned};
 ghost use Rattle.cat_events.specs.Shelf.{reads_other, with_shelf};
 ghost use Rattle.cat_events.specs.Stepped.{come_to, is_known};
 
-use crate::claims::{Claimed, reclaimed};
+use crate::claims::claimed_by_entity;
 use crate::plan::{Inputs, OwnChange, Plan, planned};
 use crate::refusal::{input_fault, unless, unless_spent};
-use crate::rows::replaced_rows;
 use crate::stepped::{Step, take_in};
 use crate::without::without;
+use cat_claims::replaced::Nothing;
 use cat_frame::change::Own;
 use cat_hold::build::{Passes, filtered};
 use cat_hold::hold::row_of;
 use cat_hold::layers::Layers;
 use cat_hold::parts::{same_option_work, work_of};
 use cat_links::links::Links;
-use cat_model::types::{Fault, Leaving, Numbered, Origin, Settings, State};
+use cat_model::types::{Fault, Leaving, Settings, State};
 use cat_ref::reference::Ref;
 use cat_table::listing::{Copied, Listing};
 use cat_tree::text::Text;
@@ -184,29 +184,6 @@ fn is_known(m: &State, reference: &Ref) -> bool
     m.records.get(reference).is_some() || m.orphans.get(reference).is_some()
 }
 
-// The rows without those that a reference offers.
-fn own_rows_dropped(alloc: Global, reference: &Ref, m: &State) -> Result<Numbered, AllocError>
-    requires { m.now.arrival ≤ 2 ^ 59 }
-    ensures { IfOk result (λ x. x ≡ replaced (Entity reference.now) (λ q. None) [] m.now) }
-{
-    let origin = Origin::Entity(reference.duplicate(alloc)?);
-    let offers = Table::new(alloc);
-    let order = Vec::new(alloc);
-    let numbered = replaced_rows(alloc, &origin, &offers, order.as_slice(), m)?;
-    Ok(numbered)
-}
-
-// Who holds what once a reference offers nothing.
-fn own_rows_released(alloc: Global, reference: &Ref, m: &State) -> Result<Claimed, AllocError>
-    requires small { m.now.arrival ≤ 2 ^ 59 }
-    requires order { IsTrue (is_sorted text_cmp m.now.holders) }
-    ensures { IfOk result (λ x. IsClaimed x m.now.holders (replaced (Entity reference.now) (λ q. None) [] m.now)) }
-{
-    let numbered = own_rows_dropped(alloc, reference, m)?;
-    let claimed = reclaimed(alloc, &numbered, &m.holders)?;
-    Ok(claimed)
-}
-
 // The plan of a forget.
 fn forget_plan<L: Layers>(
     alloc: Global,
@@ -219,7 +196,7 @@ fn forget_plan<L: Layers>(
     ensures state { IfOk result (λ x. planned x m.now ≡ frame L.rules Deleted m.now (forgotten reference.now m.now)) }
     ensures linked { IfOk result (λ x. AreLinked L.rules x.following.links.after (planned x m.now)) }
 {
-    let claimed = own_rows_released(alloc, reference, m)?;
+    let claimed = claimed_by_entity(alloc, reference, &Nothing, &[], m)?;
     let touched = claimed.moved.duplicate(alloc)?;
     let own = OwnChange {
         how: Leaving::Deleted,

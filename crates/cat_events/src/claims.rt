@@ -1,128 +1,91 @@
-//! Who holds what once the rows of one origin were replaced, and the references whose holder changes.
-ghost use Rattle.std.specs.Prelude.{◌≡◌, ◌++◌, ◌∷◌, [], if◌then◌else◌, not, nat_eq, IfOk, IsTrue};
-ghost use Rattle.std.specs.FinMap.Entries.{is_sorted};
-ghost use Rattle.cat_table.specs.Table.{keys, text_cmp};
-ghost use Rattle.cat_events.specs.Claimed.{IsClaimed, held_by_another, newly_held, no_longer_held};
+//! Who holds what once one origin offers something else.
+ghost use Rattle.std.specs.Prelude.{◌≡◌, ◌++◌, ◌≤◌, ◌^◌, IfOk, option_map, true};
+ghost use Rattle.std.specs.declared.option.Option.TheVariants.{Some};
+ghost use Rattle.cat_table.specs.Table.{get, keys};
+ghost use Rattle.cat_types.specs.declared.input.Offered.{Offered as OfferedValue};
+ghost use Rattle.cat_model.specs.declared.types.Origin.TheVariants.{Entity};
+ghost use Rattle.cat_model.specs.Catalogue.{Ref as RefValue, may_offer};
+ghost use Rattle.cat_model.specs.Sound.{AreOffers};
+ghost use Rattle.cat_model.specs.Step.{replaced};
+ghost use Rattle.cat_holding.specs.Mend.{IsReady};
+ghost use Rattle.cat_claims.specs.Change.{IsChangedAmong};
+ghost use Rattle.cat_claims.specs.Claimed.{IsClaimed};
+ghost use Rattle.cat_events.specs.OwnChanges.{offered_or};
 
-use cat_hold::hold::{reheld_holders, standing_rows};
+use crate::again::kept_offers;
+use cat_claims::claims::reclaimed;
+use cat_claims::replaced::{Offering, replaced_rows};
+use cat_claims::types::Claimed;
 use cat_hold::parts::append;
-use cat_model::types::{Numbered, Row};
+use cat_model::types::{Origin, Record, State};
 use cat_ref::reference::Ref;
-use cat_table::key::Key;
 use cat_table::listing::{Copied, Listing};
-use cat_types::table::Table;
+use cat_types::input::Offered;
 use std::alloc::{AllocError, Global};
-use std::cmp::Ordering;
 
-/// Who holds what once the rows of one origin were replaced: the rows and holders after it and the next arrival, the
-/// references that are newly held, those that are no longer held, and those that another row holds than before, each in
-/// order.
-#[derive(Drop)]
-pub struct Claimed {
-    pub rows: Table<u64, Row>,
-    pub holders: Table<Ref, u64>,
-    pub arrival: u64,
-    pub fresh: Listing<Ref>,
-    pub leaving: Listing<Ref>,
-    pub moved: Listing<Ref>,
-}
-
-// A reference, with the arrival of the row that holds it.
-type Entry = (Ref, u64);
-
-// The references whose holder changes, each in order: those that are newly held, those that are no longer held, and those
-// that another row holds than before.
-#[derive(Drop)]
-struct Changes {
-    fresh: Listing<Ref>,
-    leaving: Listing<Ref>,
-    moved: Listing<Ref>,
-}
-
-// Puts the references of these entries at the end.
-fn push_all(alloc: Global, list: &mut Listing<Ref>, entries: &[Entry]) -> Result<(), AllocError>
-    ensures { IfOk result (λ _. list.new ≡ list.old ++ keys entries.now) }
-{
-    for (reference, _) in entries {
-        list.push(reference.duplicate(alloc)?)?;
-    }
-    Ok(())
-}
-
-// Puts a reference at the end where another row holds it than before.
-fn push_other(
+/// Who holds what once this origin offers just these, where outside of the changed references it offers what it did, and what is new
+/// is numbered in the given order.
+pub fn claimed<O: Offering>(
     alloc: Global,
-    list: &mut Listing<Ref>,
-    was: &Entry,
-    is: &Entry,
-) -> Result<(), AllocError>
-    ensures { IfOk result (λ _. list.new ≡ (if not (nat_eq was.now.1 is.now.1) then list.old ++ is.now.0 ∷ [] else list.old)) }
-{
-    if was.1 != is.1 {
-        list.push(is.0.duplicate(alloc)?)?;
-    }
-    Ok(())
-}
-
-// Both tables are in order, so one pass over them finds the references whose holder changes.
-fn compared(alloc: Global, before: &[Entry], after: &[Entry]) -> Result<Changes, AllocError>
-    requires before { IsTrue (is_sorted text_cmp before.now) }
-    requires after { IsTrue (is_sorted text_cmp after.now) }
-    ensures fresh { IfOk result (λ x. x.fresh ≡ newly_held before.now after.now) }
-    ensures leaving { IfOk result (λ x. x.leaving ≡ no_longer_held before.now after.now) }
-    ensures moved { IfOk result (λ x. x.moved ≡ held_by_another before.now after.now) }
-{
-    let mut fresh = Listing::new(alloc);
-    let mut leaving = Listing::new(alloc);
-    let mut moved = Listing::new(alloc);
-    let (mut before_at, mut after_at) = (0, 0);
-    while before_at < before.len() && after_at < after.len() {
-        let (was, is) = (&before[before_at], &after[after_at]);
-        match was.0.compare(&is.0) {
-            Ordering::Less => {
-                leaving.push(was.0.duplicate(alloc)?)?;
-                before_at += 1;
-            }
-            Ordering::Equal => {
-                push_other(alloc, &mut moved, was, is)?;
-                before_at += 1;
-                after_at += 1;
-            }
-            Ordering::Greater => {
-                fresh.push(is.0.duplicate(alloc)?)?;
-                after_at += 1;
-            }
-        }
-    }
-    push_all(alloc, &mut leaving, &before[before_at..])?;
-    push_all(alloc, &mut fresh, &after[after_at..])?;
-    Ok(Changes {
-        fresh,
-        leaving,
-        moved,
-    })
-}
-
-/// The rules of holding are applied to these rows, and what is held before and after is compared.
-pub fn reclaimed(
-    alloc: Global,
-    numbered: &Numbered,
-    holders: &Table<Ref, u64>,
+    origin: &Origin,
+    offers: &O,
+    order: &[Ref],
+    changed: &[Ref],
+    m: &State,
 ) -> Result<Claimed, AllocError>
-    requires { IsTrue (is_sorted text_cmp holders.now) }
-    ensures { IfOk result (λ x. IsClaimed x holders.now numbered.now) }
+    requires small { m.now.arrival ≤ 2 ^ 59 }
+    requires ready { IsReady m.now }
+    requires changed { IsChangedAmong origin.now (O.offers offers.now) changed.now m.now.rows }
+    requires open { (r : RefValue) (x : OfferedValue) → O.offers offers.now r ≡ Some x → may_offer m.now.holders origin.now ≡ true }
+    ensures { IfOk result (λ x. IsClaimed x m.now.holders (replaced origin.now (O.offers offers.now) order.now m.now)) }
 {
-    let after = reheld_holders(alloc, &numbered.rows, holders)?;
-    let rows = standing_rows(alloc, &numbered.rows, &after)?;
-    let changes = compared(alloc, holders.as_slice(), after.as_slice())?;
-    Ok(Claimed {
-        rows,
-        holders: after,
-        arrival: numbered.next,
-        fresh: changes.fresh,
-        leaving: changes.leaving,
-        moved: changes.moved,
-    })
+    let replaced = replaced_rows(alloc, origin, offers, order, changed, m)?;
+    let claimed = reclaimed(alloc, replaced, &m.holders)?;
+    Ok(claimed)
+}
+
+// The references of these offers.
+fn refs_of(alloc: Global, offers: &[(Ref, Offered)]) -> Result<Listing<Ref>, AllocError>
+    ensures { IfOk result (λ l. l ≡ keys offers.now) }
+{
+    let mut refs = Listing::new(alloc);
+    for (reference, _) in offers {
+        refs.push(reference.duplicate(alloc)?)?;
+    }
+    Ok(refs)
+}
+
+// The references that a record's kept output offers, and these.
+fn offered_or(
+    alloc: Global,
+    kept: Option<&Record>,
+    order: &[Ref],
+) -> Result<Listing<Ref>, AllocError>
+    ensures { IfOk result (λ l. l ≡ offered_or (option_map (λ x. x.now) kept.entry) order.now) }
+{
+    let mut changed = refs_of(alloc, kept_offers(kept))?;
+    append(alloc, &mut changed, order)?;
+    Ok(changed)
+}
+
+/// Who holds what once an entity offers just these, where what is new is numbered in the given order.
+pub fn claimed_by_entity<O: Offering>(
+    alloc: Global,
+    entity: &Ref,
+    offers: &O,
+    order: &[Ref],
+    m: &State,
+) -> Result<Claimed, AllocError>
+    requires small { m.now.arrival ≤ 2 ^ 59 }
+    requires ready { IsReady m.now }
+    requires offers { AreOffers m.now }
+    requires open { (r : RefValue) (x : OfferedValue) → O.offers offers.now r ≡ Some x → may_offer m.now.holders (Entity entity.now) ≡ true }
+    ensures { IfOk result (λ x. IsClaimed x m.now.holders (replaced (Entity entity.now) (O.offers offers.now) order.now m.now)) }
+{
+    let origin = Origin::Entity(entity.duplicate(alloc)?);
+    let changed = offered_or(alloc, m.records.get(entity), order)?;
+    let claimed = claimed(alloc, &origin, offers, order, changed.as_slice(), m)?;
+    Ok(claimed)
 }
 
 /// The references that another row holds than before, and those that the origin offers.

@@ -1,34 +1,33 @@
 //! Finishes.
-ghost use Rattle.std.specs.Prelude.{◌≡◌, ◌+◌, ◌<◌, ◌≤◌, ◌^◌, true, IfOk, IsTrue, MatchBool, Option};
+ghost use Rattle.std.specs.Prelude.{◌≡◌, ◌+◌, ◌<◌, ◌≤◌, ◌^◌, true, IfOk, MatchBool, Option};
 ghost use Rattle.std.specs.declared.option.Option.TheVariants.{Some};
-ghost use Rattle.std.specs.FinMap.Entries.{is_sorted};
-ghost use Rattle.cat_table.specs.Table.{get, text_cmp};
+ghost use Rattle.cat_table.specs.Table.{get};
+ghost use Rattle.cat_types.specs.declared.work.Outcome.TheVariants.{Good};
 ghost use Rattle.cat_frame.specs.Linked.{AreLinked};
-ghost use Rattle.cat_model.specs.Catalogue.{frame};
-ghost use Rattle.cat_model.specs.Step.{finished_record, finished_rows, finished_state, leaving};
+ghost use Rattle.cat_model.specs.Catalogue.{Issues, frame, held};
+ghost use Rattle.cat_model.specs.Sound.{AreOffers};
+ghost use Rattle.cat_model.specs.Step.{finished_record, finished_state, leaving};
 ghost use Rattle.cat_model.specs.Step.Event.{Finish};
-ghost use Rattle.cat_events.specs.Alone.{is_present_order, offers_again};
-ghost use Rattle.cat_events.specs.Claimed.{IsClaimed};
+ghost use Rattle.cat_events.specs.Again.{is_present_order, offers_again};
+ghost use Rattle.cat_holding.specs.Mend.{IsReady};
 ghost use Rattle.cat_events.specs.Coming.{HasCome, IsLinkedStep, IsSteady, seen};
-ghost use Rattle.cat_events.specs.Mutating.{IsFinishing, finishing_alone, offered_refs};
+ghost use Rattle.cat_events.specs.OwnChanges.{IsFinishing, finishing_alone};
 ghost use Rattle.cat_events.specs.Planned.{planned};
 ghost use Rattle.cat_events.specs.Stepped.{come_to, AreMoments};
 
-use crate::alone::offers_again;
-use crate::claims::{Claimed, reclaimed, touched};
+use crate::again::offers_again;
+use crate::claims::{claimed_by_entity, touched};
 use crate::done::Done;
 use crate::plan::{Inputs, OwnChange, Plan, planned};
 use crate::present::present_order;
 use crate::refusal::unless_spent;
-use crate::rows::replaced_rows;
 use crate::stepped::{Step, take_in};
 use cat_frame::change::Own;
 use cat_hold::layers::Layers;
 use cat_links::links::Links;
-use cat_model::types::{Fault, Leaving, Numbered, Origin, OrphanRule, Record, Settings, State};
-use cat_ref::reference::Ref;
+use cat_model::types::{Fault, Leaving, OrphanRule, Record, Settings, State};
 use cat_table::listing::{Copied, Listing};
-use cat_types::work::Outcome;
+use cat_types::work::{Outcome, Output};
 use std::alloc::{AllocError, Global};
 
 // What becomes of what leaves at a finish.
@@ -78,72 +77,23 @@ fn record_finished(
     }
 }
 
-fn rows_finished(
-    alloc: Global,
-    reference: &Ref,
-    outcome: &Outcome,
-    m: &State,
-) -> Result<Numbered, AllocError>
-    requires { m.now.arrival ≤ 2 ^ 59 }
-    ensures { IfOk result (λ x. x ≡ finished_rows reference.now outcome.now m.now) }
-{
-    match outcome {
-        Outcome::Good(output, _) => {
-            let origin = Origin::Entity(reference.duplicate(alloc)?);
-            let order = output.offers.keys(alloc)?;
-            replaced_rows(alloc, &origin, &output.offers, order.as_slice(), m)
-        }
-        Outcome::Bad(_) => {
-            let rows = m.rows.duplicate(alloc)?;
-            Ok(Numbered {
-                rows,
-                next: m.arrival,
-            })
-        }
-    }
-}
-
-// The references that a result offers, in order of its offers.
-fn offered_refs(alloc: Global, outcome: &Outcome) -> Result<Listing<Ref>, AllocError>
-    ensures { IfOk result (λ l. l ≡ offered_refs outcome.now) }
-{
-    match outcome {
-        Outcome::Good(output, _) => output.offers.keys(alloc),
-        Outcome::Bad(_) => Ok(Listing::new(alloc)),
-    }
-}
-
-// Who holds what after a result.
-fn claimed_by(
-    alloc: Global,
-    reference: &Ref,
-    outcome: &Outcome,
-    m: &State,
-) -> Result<Claimed, AllocError>
-    requires small { m.now.arrival ≤ 2 ^ 59 }
-    requires order { IsTrue (is_sorted text_cmp m.now.holders) }
-    ensures { IfOk result (λ x. IsClaimed x m.now.holders (finished_rows reference.now outcome.now m.now)) }
-{
-    let numbered = rows_finished(alloc, reference, outcome, m)?;
-    let claimed = reclaimed(alloc, &numbered, &m.holders)?;
-    Ok(claimed)
-}
-
-// The own change of a result that replaces rows.
+// The own change of a good result that offers something else.
 fn change_of_rows(
     alloc: Global,
     how: Leaving,
     own: Own,
-    outcome: &Outcome,
+    output: &Output,
     m: &State,
 ) -> Result<OwnChange, AllocError>
     requires small { m.now.arrival ≤ 2 ^ 59 }
-    requires order { IsTrue (is_sorted text_cmp m.now.holders) }
-    ensures { IfOk result (λ x. IsFinishing how own outcome.now m.now x) }
+    requires ready { IsReady m.now }
+    requires offers { AreOffers m.now }
+    requires held { held m.now.holders own.reference ≡ true }
+    ensures { IfOk result (λ x. (issues : Issues) → IsFinishing how own (Good output.now issues) m.now x) }
 {
-    let claimed = claimed_by(alloc, &own.reference, outcome, m)?;
-    let offered = offered_refs(alloc, outcome)?;
-    let touched = touched(alloc, &claimed, offered.as_slice())?;
+    let order = output.offers.keys(alloc)?;
+    let claimed = claimed_by_entity(alloc, &own.reference, &output.offers, order.as_slice(), m)?;
+    let touched = touched(alloc, &claimed, order.as_slice())?;
     Ok(OwnChange {
         how,
         own: Some(own),
@@ -176,13 +126,20 @@ fn own_change(
     m: &State,
 ) -> Result<OwnChange, AllocError>
     requires small { m.now.arrival ≤ 2 ^ 59 }
-    requires order { IsTrue (is_sorted text_cmp m.now.holders) }
+    requires ready { IsReady m.now }
+    requires offers { AreOffers m.now }
+    requires held { held m.now.holders own.reference ≡ true }
     ensures { IfOk result (λ x. MatchBool (offers_again (Some kept.now) outcome.now) (x ≡ finishing_alone how own) (IsFinishing how own outcome.now m.now x)) }
 {
-    if offers_again(Some(kept), outcome) {
-        Ok(change_alone(alloc, how, own))
-    } else {
-        change_of_rows(alloc, how, own, outcome, m)
+    match outcome {
+        Outcome::Bad(_) => Ok(change_alone(alloc, how, own)),
+        Outcome::Good(output, _) => {
+            if offers_again(Some(kept), outcome) {
+                Ok(change_alone(alloc, how, own))
+            } else {
+                change_of_rows(alloc, how, own, output, m)
+            }
+        }
     }
 }
 

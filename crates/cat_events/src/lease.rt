@@ -5,7 +5,7 @@ ghost use Rattle.cat_table.specs.Table.{get, put, text_cmp};
 ghost use Rattle.cat_model.specs.Sound.{AreSmall};
 ghost use Rattle.cat_model.specs.Step.{leased, with_record};
 ghost use Rattle.cat_model.specs.Step.Event.{Refresh, TakeAt};
-ghost use Rattle.cat_events.specs.Alone.{rerecorded_at};
+ghost use Rattle.cat_events.specs.Again.{rerecorded_at};
 ghost use Rattle.cat_events.specs.Coming.{came_fault, came_state};
 ghost use Rattle.cat_events.specs.Stepped.{come_to, AreMoments};
 

@@ -1,14 +1,14 @@
 //! The events of the catalogue: mutations, shelf changes, refreshes, forgets, takes, finishes and stitches.
 //!
-//! It stands on cat_frame. Each event is one function that makes of a state and its links what the event comes to, which is
+//! It stands on cat_frame, and on cat_claims for who holds what. Each event is one function that makes of a state and its links what the event comes to, which is
 //! the step of the abstract catalogue, exactly, or answers the refusal; where memory runs out, nothing has changed.
 //!
 //! An event that may reach many references is planned first: its plan asks only what the event reaches, and has all that differs after
 //! it. Then the room that the plan wants is taken, and from there on nothing can fail. Takes, refreshes and stitches change one entry
-//! where it stands. What may change who holds what still looks at all rows.
+//! where it stands.
 #![tactic(auto)]
 
-pub mod alone;
+pub mod again;
 mod apply;
 pub mod change;
 pub mod claims;
@@ -21,7 +21,6 @@ pub mod mutation;
 pub mod plan;
 pub mod present;
 pub mod refusal;
-pub mod rows;
 pub mod stepped;
 pub mod stitch;
 pub mod without;

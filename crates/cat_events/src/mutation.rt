@@ -1,6 +1,5 @@
 //! Mutations.
-ghost use Rattle.std.specs.Prelude.{◌≡◌, ◌<◌, ◌≤◌, ◌^◌, ◌++◌, IfOk, IsTrue, Option};
-ghost use Rattle.std.specs.FinMap.Entries.{is_sorted};
+ghost use Rattle.std.specs.Prelude.{◌≡◌, ◌<◌, ◌≤◌, ◌^◌, ◌++◌, IfOk, Option};
 ghost use Rattle.cat_table.specs.Table.{get, keys, put, text_cmp};
 ghost use Rattle.cat_model.specs.declared.types.Leaving.TheVariants.{Deleted};
 ghost use Rattle.cat_model.specs.declared.types.Origin.TheVariants.{Provider};
@@ -8,19 +7,23 @@ ghost use Rattle.cat_model.specs.Catalogue.{frame};
 ghost use Rattle.cat_model.specs.Step.{items_after, mutated_state, replaced, source_at};
 ghost use Rattle.cat_model.specs.Step.Event.{Mutate};
 ghost use Rattle.cat_frame.specs.Linked.{AreLinked};
-ghost use Rattle.cat_events.specs.Claimed.{IsClaimed};
+ghost use Rattle.cat_holding.specs.Mend.{IsReady};
+ghost use Rattle.cat_claims.specs.Change.{IsChangedAmong};
+ghost use Rattle.cat_claims.specs.Claimed.{IsClaimed};
 ghost use Rattle.cat_events.specs.Coming.{HasCome, IsLinkedStep, IsSteady, seen};
 ghost use Rattle.cat_events.specs.Planned.{planned};
-ghost use Rattle.cat_events.specs.Mutating.{IsMutating};
+ghost use Rattle.cat_events.specs.OwnChanges.{IsMutating, given_or_removed};
 ghost use Rattle.cat_events.specs.Stepped.{come_to};
 
-use crate::claims::{Claimed, reclaimed, touched};
+use crate::claims::{claimed, touched};
 use crate::items::next_items;
 use crate::plan::{Inputs, OwnChange, Plan, planned};
 use crate::refusal::{input_fault, unless};
-use crate::rows::replaced_rows;
 use crate::stepped::{Step, take_in};
+use cat_claims::types::Claimed;
 use cat_hold::layers::Layers;
+use cat_hold::parts::append;
+use cat_items::items::OfferedItems;
 use cat_links::links::Links;
 use cat_model::types::{Fault, Given, Leaving, Origin, ProviderInputs, Settings, State};
 use cat_ref::reference::Ref;
@@ -37,7 +40,7 @@ fn source_of(alloc: Global, m: &State, p: &Text) -> Result<ProviderInputs, Alloc
     match m.providers.get(p) {
         None => Ok(ProviderInputs {
             serial: 0,
-            items: Table::new(alloc),
+            items: OfferedItems::new(),
         }),
         Some(source) => source.duplicate(alloc),
     }
@@ -53,21 +56,40 @@ pub fn last_serial(m: &State, p: &Text) -> u64
     }
 }
 
+// The references whose item may be another one after a mutation.
+fn given_or_removed(
+    alloc: Global,
+    x: &Given,
+    items: &OfferedItems,
+) -> Result<Listing<Ref>, AllocError>
+    ensures { IfOk result (λ l. l ≡ given_or_removed x.now items.now) }
+{
+    let given = x.items.keys(alloc)?;
+    let mut changed = if x.full {
+        items.keys(alloc)?
+    } else {
+        x.removed.duplicate(alloc)?
+    };
+    append(alloc, &mut changed, given.as_slice())?;
+    Ok(changed)
+}
+
 // Who holds what once a provider offers these items.
 fn claimed_by(
     alloc: Global,
     p: &Text,
-    items: &Table<Ref, Offered>,
+    items: &OfferedItems,
     order: &[Ref],
+    changed: &[Ref],
     m: &State,
 ) -> Result<Claimed, AllocError>
     requires small { m.now.arrival ≤ 2 ^ 59 }
-    requires order { IsTrue (is_sorted text_cmp m.now.holders) }
+    requires ready { IsReady m.now }
+    requires changed { IsChangedAmong (Provider p.now) (get items.now) changed.now m.now.rows }
     ensures { IfOk result (λ x. IsClaimed x m.now.holders (replaced (Provider p.now) (get items.now) order.now m.now)) }
 {
     let origin = Origin::Provider(p.duplicate(alloc)?);
-    let numbered = replaced_rows(alloc, &origin, items, order, m)?;
-    let claimed = reclaimed(alloc, &numbered, &m.holders)?;
+    let claimed = claimed(alloc, &origin, items, order, changed, m)?;
     Ok(claimed)
 }
 
@@ -90,15 +112,17 @@ fn own_change(
     alloc: Global,
     p: &Text,
     x: &Given,
-    items: Table<Ref, Offered>,
+    items: OfferedItems,
+    changed: &[Ref],
     m: &State,
 ) -> Result<OwnChange, AllocError>
     requires small { m.now.arrival ≤ 2 ^ 59 }
-    requires order { IsTrue (is_sorted text_cmp m.now.holders) }
+    requires ready { IsReady m.now }
+    requires changed { IsChangedAmong (Provider p.now) (get items) changed.now m.now.rows }
     ensures { IfOk result (λ own. IsMutating p.now x.now items m.now own) }
 {
     let order = x.items.keys(alloc)?;
-    let claimed = claimed_by(alloc, p, &items, order.as_slice(), m)?;
+    let claimed = claimed_by(alloc, p, &items, order.as_slice(), changed, m)?;
     let touched = touched(alloc, &claimed, order.as_slice())?;
     let inputs = ProviderInputs {
         serial: x.serial,
@@ -128,8 +152,9 @@ fn mutation_plan<L: Layers>(
     ensures linked { IfOk result (λ y. AreLinked L.rules y.following.links.after (planned y m.now)) }
 {
     let source = source_of(alloc, m, p)?;
+    let changed = given_or_removed(alloc, x, &source.items)?;
     let items = next_items(alloc, x, &source.items)?;
-    let own = own_change(alloc, p, x, items, m)?;
+    let own = own_change(alloc, p, x, items, changed.as_slice(), m)?;
     let plan = planned(alloc, layers, own, m, links)?;
     Ok(plan)
 }

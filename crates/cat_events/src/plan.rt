@@ -6,14 +6,16 @@ ghost use Rattle.cat_frame.specs.Linked.{AreLinked};
 ghost use Rattle.cat_events.specs.Coming.{IsSteady};
 ghost use Rattle.cat_events.specs.Planned.{IsOwned, IsReached, fresh_of, holders_after, leaving_of, planned, rows_after, shelf_after};
 
-use crate::claims::Claimed;
+use cat_claims::types::Claimed;
 use cat_frame::change::{Change, Own};
 use cat_frame::following::{Following, plan};
 use cat_hold::layers::Layers;
 use cat_links::links::Links;
-use cat_model::types::{Leaving, ProviderInputs, Row, State};
+use cat_model::rows::IndexedRows;
+use cat_model::types::{Leaving, ProviderInputs, State};
 use cat_ref::reference::Ref;
 use cat_table::listing::Listing;
+use cat_table::map::Map;
 use cat_tree::text::Text;
 use cat_types::table::Table;
 use std::alloc::{AllocError, Global};
@@ -55,7 +57,7 @@ pub fn shelf_after<'a>(inputs: &'a Inputs, shelf: &'a Table<Text, Text>) -> &'a 
     }
 }
 
-fn rows_after<'a>(claims: &'a Option<Claimed>, rows: &'a Table<u64, Row>) -> &'a Table<u64, Row>
+fn rows_after<'a>(claims: &'a Option<Claimed>, rows: &'a IndexedRows) -> &'a IndexedRows
     ensures { result.now ≡ rows_after claims.now rows.now }
 {
     match claims {
@@ -64,10 +66,7 @@ fn rows_after<'a>(claims: &'a Option<Claimed>, rows: &'a Table<u64, Row>) -> &'a
     }
 }
 
-fn holders_after<'a>(
-    claims: &'a Option<Claimed>,
-    holders: &'a Table<Ref, u64>,
-) -> &'a Table<Ref, u64>
+fn holders_after<'a>(claims: &'a Option<Claimed>, holders: &'a Map<Ref, u64>) -> &'a Map<Ref, u64>
     ensures { result.now ≡ holders_after claims.now holders.now }
 {
     match claims {

@@ -6,7 +6,7 @@ ghost use Rattle.cat_links.specs.Links.{Emitted};
 ghost use Rattle.cat_frame.specs.Linked.{AreLinked, AreRecorded};
 ghost use Rattle.cat_model.specs.Catalogue.{same_option, work};
 ghost use Rattle.cat_model.specs.Step.{has_token, is_present, is_present_stitch, is_ticket};
-ghost use Rattle.cat_events.specs.Alone.{is_present_order};
+ghost use Rattle.cat_events.specs.Again.{is_present_order};
 
 use cat_frame::parts::present_parts;
 use cat_hold::layers::Layers;

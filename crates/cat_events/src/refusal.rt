@@ -8,9 +8,9 @@ ghost use Rattle.cat_events.specs.Coming.{IsLinkedStep, seen};
 ghost use Rattle.cat_events.specs.Planned.{arrival_after, planned, providers_after, shelf_after};
 ghost use Rattle.cat_events.specs.Stepped.{over_limit, stepped};
 
-use crate::claims::Claimed;
 use crate::plan::{Inputs, Plan, shelf_after};
 use crate::stepped::Step;
+use cat_claims::types::Claimed;
 use cat_hold::layers::Layers;
 use cat_model::types::{Counter, Fault, ProviderInputs, Settings, State};
 use cat_tree::text::Text;

@@ -8,10 +8,12 @@ ghost use Rattle.cat_frame.specs.Following.{kept_now, orphan_then, own_reference
 use crate::order::in_order;
 use cat_hold::hold::is_held;
 use cat_links::links::Links;
-use cat_model::types::{Leaving, Orphan, Record, Row, State};
+use cat_model::rows::IndexedRows;
+use cat_model::types::{Leaving, Orphan, Record, State};
 use cat_ref::reference::Ref;
 use cat_table::key::Key;
 use cat_table::listing::Copied;
+use cat_table::map::Map;
 use cat_tree::text::Text;
 use cat_types::table::Table;
 use std::alloc::{AllocError, Global};
@@ -35,8 +37,8 @@ pub struct Change<'a> {
     pub m: &'a State,
     pub links: &'a Links,
     pub shelf: &'a Table<Text, Text>,
-    pub rows: &'a Table<u64, Row>,
-    pub holders: &'a Table<Ref, u64>,
+    pub rows: &'a IndexedRows,
+    pub holders: &'a Map<Ref, u64>,
     pub fresh: &'a [Ref],
     pub leaving: &'a [Ref],
     pub touched: &'a [Ref],

@@ -13,6 +13,7 @@ use cat_hold::parts::{append, relations_from};
 use cat_model::types::State;
 use cat_ref::reference::Ref;
 use cat_table::listing::{Copied, Listing};
+use cat_table::map::Map;
 use cat_types::issue::Issue;
 use cat_types::node::Node;
 use cat_types::parts::Parts;
@@ -57,16 +58,15 @@ trait Emits {
         ensures { IfOk result (λ l. l ≡ emits self.now reference.now) };
 }
 
-#[tactic(auto, using(crate::proofs::Steps::one_more))]
 fn gathered<F: Emits>(
     alloc: Global,
-    holders: &[(Ref, u64)],
+    holders: &Map<Ref, u64>,
     f: &F,
 ) -> Result<Listing<Relation>, AllocError>
     ensures { IfOk result (λ l. l ≡ flat_map (F.emits f.now) (keys holders.now)) }
 {
     let mut relations = Listing::new(alloc);
-    for (reference, _) in holders {
+    for (reference, _) in holders.iter() {
         let more = f.emitted(alloc, reference)?;
         append(alloc, &mut relations, more.as_slice())?;
     }
@@ -96,7 +96,7 @@ fn all_emitted<L: Layers>(
     ensures { IfOk result (λ l. l ≡ emitted L.rules (keys m.now.holders) (fresh_outputs L.rules (facts_of L.rules m.now))) }
 {
     let by_each = Emitted { layers, m };
-    gathered(alloc, m.holders.as_slice(), &by_each)
+    gathered(alloc, &m.holders, &by_each)
 }
 
 fn issues_of(outcome: Outcome) -> Listing<Issue>

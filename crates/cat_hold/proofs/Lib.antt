@@ -1,3 +1,2 @@
-pub mod Claims
 pub mod Lists
 pub mod Rising

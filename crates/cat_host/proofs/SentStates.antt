@@ -12,13 +12,20 @@ use Rattle.cat_table.specs.contracts.map.Map as Map
 use Rattle.cat_table.specs.contracts.map.Map.TheInside as within
 use Rattle.cat_table.specs.contracts.tree.Tree as Shared
 use Rattle.cat_ref.specs.contracts.reference.Ref as Ref
+use Rattle.cat_types.specs.contracts.input.Offered as Offered
 use Rattle.cat_types.specs.contracts.node.Node as Node
 use Rattle.cat_types.specs.contracts.node.Node.TheInside as inside
 use Rattle.cat_types.specs.contracts.work.Output as Output
 use Rattle.cat_types.specs.contracts.relation.Relation as Relation
+use Rattle.cat_items.specs.contracts.items.OfferedItems as OfferedItems
+use Rattle.cat_items.specs.contracts.items.OfferedItems.TheInside as counted
 use Rattle.cat_links.specs.contracts.links.Links as Links
 use Rattle.cat_links.specs.contracts.links.Links.TheInside as linked
+use Rattle.cat_model.specs.contracts.rows.IndexedRows as IndexedRows
+use Rattle.cat_model.specs.contracts.rows.IndexedRows.TheInside as indexed
+use Rattle.cat_model.specs.contracts.types.ProviderInputs as ProviderInputs
 use Rattle.cat_model.specs.contracts.types.Record as Record
+use Rattle.cat_model.specs.contracts.types.Row as Row
 use Rattle.cat_model.specs.contracts.types.State as State
 use Rattle.cat_host.proofs.SentTrees.{Tree-send, Tree-sync}
 use Rattle.cat_host.proofs.SentMaps as shared
@@ -43,15 +50,57 @@ output_send = declared_send Output.the_type (search known depth 60, (search know
 pub record_send : IsSend Record.the_row
 record_send = declared_send Record.the_type (search known depth 60, (search (output_send, known) depth 60, (search known depth 60, (search known depth 60, (search known depth 60, tt)))))
 
+-- ---- maps
+
+module _ (K X : RattleType) where
+  entry_send : IsSend K → IsSend X → IsSend (Tuple (K ∷ X ∷ []))
+  entry_send k x = declared_send (tuple_type (K ∷ X ∷ [])) (as_row_send (row_field K) k, (as_row_send (row_field X) x, tt))
+
+  entry_sync : IsSync K → IsSync X → IsSync (Tuple (K ∷ X ∷ []))
+  entry_sync k x = declared_sync (tuple_type (K ∷ X ∷ [])) (as_row_sync (row_field K) k, (as_row_sync (row_field X) x, tt))
+
+  module _ (g : Key.Ghosts K.Denot) (k : IsSend K) (k' : IsSync K) (x : IsSend X) (x' : IsSync X) where
+    pub Map-send : IsSend (Map.the_row K X g)
+    Map-send = view_send _ _ _ _ _ (declared_send (within.the_type K X g) (as_row_send (Shared.the_field (Tuple (K ∷ X ∷ []))) (shared.Tree-send (Tuple (K ∷ X ∷ [])) (entry_send k x) (entry_sync k' x')), tt))
+
+    pub Map-sync : IsSync (Map.the_row K X g)
+    Map-sync = view_sync _ _ _ _ _ (declared_sync (within.the_type K X g) (as_row_sync (Shared.the_field (Tuple (K ∷ X ∷ []))) (shared.Tree-sync (Tuple (K ∷ X ∷ [])) (entry_send k x) (entry_sync k' x')), tt))
+
+-- ---- states
+
+offered_send : IsSend Offered.the_row
+offered_send = search known depth 60
+
+offered_sync : IsSync Offered.the_row
+offered_sync = search known depth 60
+
+items_send : IsSend OfferedItems.the_row
+items_send = view_send _ _ _ _ _ (declared_send counted.the_type (search (Map-send, offered_send, offered_sync, known) depth 60, (search known depth 60, tt)))
+
+inputs_send : IsSend ProviderInputs.the_row
+inputs_send = declared_send ProviderInputs.the_type (search known depth 60, (search (items_send, known) depth 60, tt))
+
+row_send : IsSend Row.the_row
+row_send = search known depth 60
+
+row_sync : IsSync Row.the_row
+row_sync = search known depth 60
+
+rows_send : IsSend IndexedRows.the_row
+rows_send = view_send _ _ _ _ _ (declared_send indexed.the_type (
+  search (Map-send, row_send, row_sync, known) depth 60,
+  (search (Map-send, Map-sync, known) depth 60, (search (Map-send, Map-sync, known) depth 60, tt)),
+))
+
 pub state_send : IsSend State.the_row
 state_send = declared_send State.the_type (
-  search known depth 60,
+  search (inputs_send, known) depth 60,
   (
     search known depth 60,
     (
-      search known depth 60,
+      search (rows_send, known) depth 60,
       (
-        search known depth 60,
+        search (Map-send, known) depth 60,
         (
           search (record_send, known) depth 60,
           (
@@ -70,21 +119,7 @@ state_send = declared_send State.the_type (
   ),
 )
 
--- ---- maps
-
-module _ (K X : RattleType) where
-  entry_send : IsSend K → IsSend X → IsSend (Tuple (K ∷ X ∷ []))
-  entry_send k x = declared_send (tuple_type (K ∷ X ∷ [])) (as_row_send (row_field K) k, (as_row_send (row_field X) x, tt))
-
-  entry_sync : IsSync K → IsSync X → IsSync (Tuple (K ∷ X ∷ []))
-  entry_sync k x = declared_sync (tuple_type (K ∷ X ∷ [])) (as_row_sync (row_field K) k, (as_row_sync (row_field X) x, tt))
-
-  module _ (g : Key.Ghosts K.Denot) (k : IsSend K) (k' : IsSync K) (x : IsSend X) (x' : IsSync X) where
-    pub Map-send : IsSend (Map.the_row K X g)
-    Map-send = view_send _ _ _ _ _ (declared_send (within.the_type K X g) (as_row_send (Shared.the_field (Tuple (K ∷ X ∷ []))) (shared.Tree-send (Tuple (K ∷ X ∷ [])) (entry_send k x) (entry_sync k' x')), tt))
-
-    pub Map-sync : IsSync (Map.the_row K X g)
-    Map-sync = view_sync _ _ _ _ _ (declared_sync (within.the_type K X g) (as_row_sync (Shared.the_field (Tuple (K ∷ X ∷ []))) (shared.Tree-sync (Tuple (K ∷ X ∷ [])) (entry_send k x) (entry_sync k' x')), tt))
+-- ---- links
 
 relation_send : IsSend Relation.the_row
 relation_send = search known depth 60

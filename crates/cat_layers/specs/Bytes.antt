@@ -1,14 +1,9 @@
 -- How much input is stored.
 use Rattle.std.specs.Prelude.{ℕ, ◌+◌, ◌^◌, length, min}
 use Rattle.std.specs.List.{sum_by}
-use Rattle.cat_tree.specs.Text.{text_of}
 use Rattle.cat_table.specs.Table.{Text, Map}
-use Rattle.cat_types.specs.declared.input.Offered.{Offered}
+use Rattle.cat_items.specs.Bytes.{item_bytes}
 use Rattle.cat_model.specs.declared.types.ProviderInputs.{ProviderInputs}
-
--- the length of the compact text of an item's tree
-abbrev pub item_bytes : Text × Offered → ℕ
-item_bytes e = length (text_of e.1.tree)
 
 -- the lengths of the compact texts of a provider's items
 abbrev pub provider_bytes : Text × ProviderInputs → ℕ

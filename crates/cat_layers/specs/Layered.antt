@@ -1,5 +1,5 @@
 -- The lower layers of the catalogue, as the abstract catalogue takes them.
-use Rattle.std.specs.Prelude.{◌≡◌, List, []}
+use Rattle.std.specs.Prelude.{List, []}
 use Rattle.cat_table.specs.Table.{Text}
 use Rattle.cat_types.specs.declared.relation.Relation.{Relation}
 use Rattle.cat_tree.specs.Data.{Data}

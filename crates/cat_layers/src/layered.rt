@@ -68,11 +68,11 @@ impl Layers for Layered {
 
     fn bytes(
         &self,
-        alloc: Global,
+        _alloc: Global,
         providers: &Table<Text, ProviderInputs>,
         shelf: &Table<Text, Text>,
     ) -> Result<u64, AllocError> {
-        stored_bytes(alloc, providers, shelf)
+        Ok(stored_bytes(providers, shelf))
     }
 
     fn same_work(&self, left: &Work, right: &Work) -> bool {

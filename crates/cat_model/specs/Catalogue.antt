@@ -18,6 +18,7 @@ pub use Rattle.cat_types.specs.declared.work.Work.{Work}
 use Rattle.cat_types.specs.Relation.{relation_cmp}
 pub use Rattle.cat_model.specs.declared.types.Origin.{Origin}
 pub use Rattle.cat_model.specs.declared.types.Row.{Row}
+pub use Rattle.cat_model.specs.Rows.{Rows, row_at}
 pub use Rattle.cat_model.specs.declared.types.Lease.{Lease}
 pub use Rattle.cat_model.specs.declared.types.Record.{Record}
 pub use Rattle.cat_model.specs.declared.types.Orphan.{Orphan}
@@ -26,7 +27,7 @@ pub use Rattle.cat_model.specs.declared.types.Leaving.{Leaving}
 use Rattle.cat_model.specs.declared.types.Leaving.TheVariants.{Deleted, Orphaned}
 use Rattle.cat_model.specs.declared.types.Origin.TheVariants.{Provider, Entity}
 use Rattle.cat_types.specs.declared.work.Outcome.TheVariants.{Good}
-use Rattle.cat_table.specs.Table.{Text, text_cmp, same_text, Map, get, keys, find, put, tabulate, over, first, place}
+use Rattle.cat_table.specs.Table.{Text, text_cmp, same_text, Map, get, keys, put, tabulate, over, first, place}
 
 -- ---- what the lower layers give
 
@@ -82,10 +83,6 @@ pub record Rules : Type 0 where
 
 -- ---- the state
 
--- rows by arrival
-abbrev pub Rows : Type 0
-Rows = List (ℕ × Row)
-
 -- the arrival of the row that holds each reference
 abbrev pub Holders : Type 0
 Holders = Map ℕ
@@ -95,10 +92,6 @@ Holders = Map ℕ
 -- whether a row holds r
 abbrev pub held : Holders → Ref → Bool
 held holders r = is_some (get holders r)
-
--- the row with this arrival
-abbrev pub row_at : Rows → ℕ → Option Row
-row_at rows a = find nat_cmp a rows
 
 -- the row that holds r
 abbrev pub holding : Rows → Holders → Ref → Option Row

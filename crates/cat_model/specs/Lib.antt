@@ -1,3 +1,4 @@
+pub mod Rows
 pub mod Catalogue
 pub mod Given
 pub mod Step

@@ -15,6 +15,7 @@ pub use Rattle.cat_model.specs.declared.types.Fault.{Fault}
 use Rattle.cat_model.specs.declared.types.Fault.TheVariants.{OldSerial, NotFound, TooLarge, Spent}
 use Rattle.cat_model.specs.declared.types.Counter.TheVariants.{Arrival, Number, Token, Ticket}
 use Rattle.cat_table.specs.Table.{Text, text_cmp, same_text, Map, get, keys, put, over, first, tabulate}
+pub use Rattle.cat_model.specs.Rows.{same_origin}
 use Rattle.cat_model.specs.Catalogue.{Ref, Offered, Offers, Outcome, Rules, Origin, Row, Rows, ProviderInputs, Lease, Record, State, row_at, work, parts, same_option, known_refs, frame, Orphan, due_now}
 use Rattle.cat_types.specs.declared.work.Outcome.TheVariants.{Good, Bad}
 use Rattle.cat_model.specs.declared.types.Origin.TheVariants.{Provider, Entity}
@@ -24,13 +25,6 @@ pub use Rattle.cat_model.specs.declared.types.OrphanRule.{OrphanRule}
 use Rattle.cat_model.specs.declared.types.OrphanRule.TheVariants.{Keep, Delete}
 
 -- ---- the rows of one origin are replaced
-
--- whether two origins are one
-abbrev pub same_origin : Origin → Origin → Bool
-same_origin (Provider p) (Provider q) = same_text p q
-same_origin (Provider p) (Entity e) = false
-same_origin (Entity e) (Provider q) = false
-same_origin (Entity e) (Entity f) = same_text e f
 
 -- a row keeps its arrival where its reference is still offered with its key
 abbrev pub offered_again : Row → Option Offered → Option Row

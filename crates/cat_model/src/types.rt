@@ -1,6 +1,9 @@
 //! What the catalogue is made of, and what it answers. In contracts each of these is the record or the list of its values.
+use crate::rows::IndexedRows;
+use cat_items::items::OfferedItems;
 use cat_ref::reference::Ref;
 use cat_table::listing::{Copied, Listing};
+use cat_table::map::Map;
 use cat_tree::text::Text;
 use cat_types::input::Offered;
 use cat_types::issue::Issue;
@@ -16,7 +19,7 @@ use thiserror::Error;
 #[derive(Drop)]
 pub struct ProviderInputs {
     pub serial: u64,
-    pub items: Table<Ref, Offered>,
+    pub items: OfferedItems,
 }
 
 /// Who offers a row: a provider, or the entity that emitted it.
@@ -78,8 +81,8 @@ pub struct Orphan {
 pub struct State {
     pub providers: Table<Text, ProviderInputs>,
     pub shelf: Table<Text, Text>,
-    pub rows: Table<u64, Row>,
-    pub holders: Table<Ref, u64>,
+    pub rows: IndexedRows,
+    pub holders: Map<Ref, u64>,
     pub records: Table<Ref, Record>,
     pub orphans: Table<Ref, Orphan>,
     pub marks: Table<Ref, u64>,
@@ -93,7 +96,7 @@ pub struct State {
 /// The rows, and the next arrival.
 #[derive(Drop)]
 pub struct Numbered {
-    pub rows: Table<u64, Row>,
+    pub rows: IndexedRows,
     pub next: u64,
 }
 
@@ -227,7 +230,7 @@ pub struct StateCounts {
 
 impl Copied for ProviderInputs {
     fn duplicate(&self, alloc: Global) -> Result<ProviderInputs, AllocError> {
-        let items = self.items.duplicate(alloc)?;
+        let items = self.items.share()?;
         Ok(ProviderInputs {
             serial: self.serial,
             items,
@@ -286,8 +289,8 @@ impl Copied for State {
     fn duplicate(&self, alloc: Global) -> Result<State, AllocError> {
         let providers = self.providers.duplicate(alloc)?;
         let shelf = self.shelf.duplicate(alloc)?;
-        let rows = self.rows.duplicate(alloc)?;
-        let holders = self.holders.duplicate(alloc)?;
+        let rows = self.rows.share()?;
+        let holders = self.holders.share()?;
         let records = self.records.duplicate(alloc)?;
         let orphans = self.orphans.duplicate(alloc)?;
         let marks = self.marks.duplicate(alloc)?;

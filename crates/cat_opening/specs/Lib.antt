@@ -1,2 +1,6 @@
 pub mod Start
 pub mod Named
+pub mod Read
+pub mod Standing
+pub mod Candidate
+pub mod Forms

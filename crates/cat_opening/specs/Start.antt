@@ -4,7 +4,6 @@ use Rattle.cat_model.specs.Step.{start}
 use Rattle.cat_model.specs.declared.types.State.{State}
 use Rattle.cat_model.specs.declared.types.OrphanRule.TheVariants.{Keep}
 use Rattle.cat_opening.specs.declared.types.Candidate.{Candidate}
-use Rattle.cat_opening.specs.declared.types.Version.TheVariants.{Two}
 
 -- tokens and tickets start at 1, nothing is marked, no document is there, and the counters of arrivals and numbers are in
 -- their bounds
@@ -18,6 +17,6 @@ pub record IsAtStart (m : State) : Type 0 where
   pub arrival_small : m.arrival ≤ 2 ^ 59
   pub number_small : m.number ≤ 2 ^ 59
 
--- an empty catalogue, as the second version keeps it
+-- an empty catalogue
 abbrev pub empty_candidate : Candidate
-empty_candidate = record { rule = Keep; version = Two; state = start }
+empty_candidate = record { rule = Keep; state = start }

@@ -1,137 +1,40 @@
-//! From the rows of a store to its candidate, or to the row at fault.
-ghost use Rattle.std.specs.Prelude.{◌≡◌, [], IfErr, IfOk, IfSome, Ok};
-ghost use Rattle.cat_opening.specs.Named.{HasRow, IsNamed, MayBeMissing};
+//! From the rows of a store to its candidate.
+ghost use Rattle.std.specs.Prelude.{◌≡◌, [], IfOk, IfSome, MatchOption, Ok, Some};
+ghost use Rattle.cat_opening.specs.Candidate.{IsCandidate};
+ghost use Rattle.cat_opening.specs.Read.{AreNoTexts};
 ghost use Rattle.cat_opening.specs.Start.{IsAtStart, empty_candidate};
 
-use crate::rules::first_breach;
-use crate::state::{empty_state, state_of};
-use crate::stored::{Store, read_store};
-use crate::types::{Candidate, OpenFault, Version};
+use crate::read::read_rows;
+use crate::state::{empty_state, rule_of, state_of};
+use crate::types::Candidate;
 use cat_keeper::rows::StoredRows;
-use cat_keeper::table::Table;
 use cat_model::types::OrphanRule;
-use cat_rows::row::OrphanRule as StoredRule;
-use cat_tree::text::Text;
 use std::alloc::{AllocError, Global};
-
-// A store that has neither settings nor trees is of the first version.
-fn version_of(store: &Store) -> Version {
-    if store.rule.is_none() && store.trees.is_empty() {
-        Version::One
-    } else {
-        Version::Two
-    }
-}
-
-// The first row that is missing.
-fn missing(store: &Store, version: Version) -> Option<(Table, &'static str)>
-    ensures { IfSome result (λ row. MayBeMissing row.0 row.1.now) }
-{
-    if store.arrival.is_none() {
-        Some((Table::Counters, "arrival"))
-    } else if store.number.is_none() {
-        Some((Table::Counters, "number"))
-    } else if version == Version::Two && store.rule.is_none() {
-        Some((Table::Settings, "store"))
-    } else {
-        None
-    }
-}
-
-fn fault_at(alloc: Global, row: &((Table, Text), Text)) -> Result<OpenFault, AllocError>
-    ensures { IfOk result (λ fault. fault ≡ OpenFault.Row row.now.0.0 row.now.0.1) }
-{
-    let key = Text::of(alloc, row.0.1.as_str())?;
-    Ok(OpenFault::Row(row.0.0, key))
-}
-
-// The row at a place.
-fn named(alloc: Global, rows: &StoredRows, place: usize) -> Result<Option<OpenFault>, AllocError>
-    ensures { IfOk result (λ fault. IfSome fault (IsNamed rows.now)) }
-{
-    match rows.at(place) {
-        Some(row) => Ok(Some(fault_at(alloc, row)?)),
-        None => Ok(None),
-    }
-}
-
-// The missing row, or the row at a place where one is that stands before it.
-fn missing_or(
-    alloc: Global,
-    rows: &StoredRows,
-    table: Table,
-    key: &str,
-    breach: Option<usize>,
-) -> Result<Option<OpenFault>, AllocError>
-    requires { MayBeMissing table key.now }
-    ensures { IfOk result (λ fault. IfSome fault (IsNamed rows.now)) }
-{
-    let wanted = (table, Text::of(alloc, key)?);
-    match breach {
-        Some(place) if place < rows.place(&wanted) => named(alloc, rows, place),
-        _ => Ok(Some(OpenFault::Row(wanted.0, wanted.1))),
-    }
-}
-
-// The row at fault, if any is.
-fn fault_of(
-    alloc: Global,
-    rows: &StoredRows,
-    store: &Store,
-    version: Version,
-    input_limit: u64,
-) -> Result<Option<OpenFault>, AllocError>
-    ensures { IfOk result (λ fault. IfSome fault (IsNamed rows.now)) }
-{
-    let breach = first_breach(alloc, store, version, input_limit)?;
-    match missing(store, version) {
-        Some((table, key)) => missing_or(alloc, rows, table, key, breach),
-        None => match breach {
-            Some(place) => named(alloc, rows, place),
-            None => Ok(None),
-        },
-    }
-}
-
-// The rule for orphans; `Keep` where none is stored.
-fn rule_of(stored: Option<StoredRule>) -> OrphanRule {
-    match stored {
-        Some(StoredRule::Delete) => OrphanRule::Delete,
-        Some(StoredRule::Keep) | None => OrphanRule::Keep,
-    }
-}
 
 fn empty_catalogue(alloc: Global) -> Candidate
     ensures { result ≡ empty_candidate }
 {
     Candidate {
         rule: OrphanRule::Keep,
-        version: Version::Two,
         state: empty_state(alloc),
     }
 }
 
-/// What the rows of a store stand for, or the first row that is at fault. `input_limit` is the limit on the stored input
-/// bytes. No rows are an empty catalogue. Every record of the state is due at once; there are no leases, no marks and no
-/// documents, and tokens and tickets start at 1.
-pub fn candidate(alloc: Global, rows: &StoredRows, input_limit: u64) -> Result<Candidate, OpenFault>
-    ensures start { IfOk result (λ c. IsAtStart c.state) }
-    ensures empty { rows.now ≡ [] → result ≡ Ok empty_candidate }
-    ensures named { IfErr result (λ fault. IsNamed rows.now fault) }
+/// What the texts of a store stand for; none where some of them spell no row. No rows are an empty catalogue. Every record of the
+/// state is due at once; there are no leases, no marks and no documents, and tokens and tickets start at 1.
+pub fn candidate(alloc: Global, texts: &StoredRows) -> Result<Option<Candidate>, AllocError>
+    ensures start { IfOk result (λ o. IfSome o (λ c. IsAtStart c.state)) }
+    ensures empty { texts.now ≡ [] → result ≡ Ok (Some empty_candidate) }
+    ensures read { IfOk result (λ o. MatchOption o (AreNoTexts texts.now) (IsCandidate texts.now)) }
 {
-    if rows.is_empty() {
-        return Ok(empty_catalogue(alloc));
+    if texts.is_empty() {
+        return Ok(Some(empty_catalogue(alloc)));
     }
-    let store = read_store(alloc, rows)?;
-    let version = version_of(&store);
-    if let Some(fault) = fault_of(alloc, rows, &store, version, input_limit)? {
-        return Err(fault);
+    match read_rows(alloc, texts)? {
+        None => Ok(None),
+        Some(rows) => Ok(Some(Candidate {
+            rule: rule_of(rows.as_slice()),
+            state: state_of(alloc, rows.as_slice())?,
+        })),
     }
-    let rule = rule_of(store.rule);
-    let state = state_of(alloc, store, version)?;
-    Ok(Candidate {
-        rule,
-        version,
-        state,
-    })
 }

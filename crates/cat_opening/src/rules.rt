@@ -1,6 +1,8 @@
-//! The rules that the rows of a store keep to, and the first row that breaks one.
+//! The rules that the rows of a store keep to, and the first row that breaks one. They name the row that is wrong in a store that
+//! doesn't open.
 use crate::arrivals::{Arrival, has_arrived, repeated_arrivals, repeated_numbers};
 use crate::entity::{is_entity, may_be_given};
+use crate::forms::MOST_SERIAL;
 use crate::limit::first_past;
 use crate::roots::{Above, is_rooted, roots};
 use crate::stored::{CounterRow, ItemRow, OrphanRow, RecordRow, Store};
@@ -13,9 +15,6 @@ use std::alloc::{AllocError, Global};
 
 /// The greatest next number of a counter.
 pub const MOST_NUMBER: u64 = 1 << 59;
-
-/// The greatest serial.
-const MOST_SERIAL: u64 = (1 << 53) - 1;
 
 // The rows, with what is asked of them together.
 #[derive(Drop)]
@@ -84,8 +83,10 @@ impl Asked<'_> {
         if !self.trees.suits(&item.beside) || self.store.record_at(&item.reference).is_none() {
             return Ok(false);
         }
-        let tree = self.trees.tree_of(item.arrival, &item.beside);
-        may_be_given(alloc, tree, &item.reference)
+        match self.trees.tree_of(item.arrival, &item.beside) {
+            Some(tree) => may_be_given(alloc, tree, &item.reference),
+            None => Ok(false),
+        }
     }
 
     // An offer was numbered, and its reference has a record and is that of its tree.
@@ -96,8 +97,10 @@ impl Asked<'_> {
         if self.store.record_at(&offer.reference).is_none() {
             return Ok(false);
         }
-        let tree = self.trees.tree_of(offer.arrival, &offer.tree);
-        may_be_given(alloc, tree, &offer.reference)
+        match self.trees.tree_of(offer.arrival, &offer.tree) {
+            Some(tree) => may_be_given(alloc, tree, &offer.reference),
+            None => Ok(false),
+        }
     }
 
     fn are_offers(&self, alloc: Global, offers: &[StoredOffer]) -> Result<bool, AllocError> {

@@ -14,19 +14,18 @@ pub enum Version {
 /// Why rows give no state.
 #[derive(Drop)]
 pub enum OpenFault {
-    /// The first row, in order of table and key, that has no reading or breaks a rule. Where a counter or the settings are
-    /// missing it is named in the place where it would stand.
+    /// The first row, in order of table and key, that is wrong. Where a counter or the settings are missing it is named in the place
+    /// where it would stand.
     Row(Table, Text),
     /// Memory is wanted.
     NoMemory,
 }
 
-/// What the rows of a store stand for: the rule for orphans, which is `Keep` where none is stored, the version, and the
-/// state. A store without rows is an empty catalogue of the second version.
+/// What the rows of a store stand for: the rule for orphans, which is `Keep` where none is stored, and the state. A store without
+/// rows is an empty catalogue.
 #[derive(Drop)]
 pub struct Candidate {
     pub rule: OrphanRule,
-    pub version: Version,
     pub state: State,
 }
 

@@ -11,3 +11,10 @@ pub mod Narrow
 pub mod Opening
 pub mod Version
 pub mod Reading
+pub mod Started
+pub mod Making
+pub mod Shapes
+pub mod Standing
+pub mod Spelling
+pub mod Stores
+pub mod Rested

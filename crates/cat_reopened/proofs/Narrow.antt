@@ -49,7 +49,7 @@ apart_from r (x ∷ xs) h z (inl e) = go (same_text z.0 r) refl
         absurd (true≢false (sym (same_self text_total text_antisymmetric r) ∙ (ap (same_text r) is ∙ h.0)))
 
 -- each of them is found
-stands : (xs : List (Text × Offered)) → IsDistinct same_text (keys xs) → (z : Text × Offered) → In z xs → get xs z.0 ≡ Some z.1
+pub stands : (xs : List (Text × Offered)) → IsDistinct same_text (keys xs) → (z : Text × Offered) → In z xs → get xs z.0 ≡ Some z.1
 unfolding IsDistinct
 stands [] d z g = absurd g
 stands (x ∷ xs) d z (inl e) = ap (λ b. cond b (Some x.1) (get xs z.0)) (ap (same_text z.0) (sym (ap (λ y. y.0) e)) ∙ same_self text_total text_antisymmetric z.0) ∙ ap (λ y. Some y.1) (sym e)

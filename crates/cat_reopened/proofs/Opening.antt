@@ -46,7 +46,7 @@ abbrev due : Text × Record → Text × Record
 due e = (e.0, due_now e.1)
 
 module _ (m : State) where
-  record_at : (r : Ref) → get (due_records m) r ≡ option_map due_now (get m.records r)
+  pub record_at : (r : Ref) → get (due_records m) r ≡ option_map due_now (get m.records r)
   record_at r = find-over text_total text_antisymmetric r m.records (λ r x. Some (due_now x)) ∙ and_then_is (get m.records r)
 
   below_due : (k : Text) (xs : List (Text × Record)) → below_all text_cmp k (map due xs) ≡ below_all text_cmp k xs

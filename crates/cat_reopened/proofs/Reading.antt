@@ -9,7 +9,7 @@ use Rattle.cat_model.specs.Step.{reopened}
 use Rattle.cat_model.specs.declared.types.OrphanRule.{OrphanRule}
 use Rattle.cat_model.specs.declared.types.OrphanRule.TheVariants.{Keep}
 use Rattle.cat_model.specs.declared.types.State.{State}
-use Rattle.cat_store.specs.Opened.{IsRead, is_first, rows_in}
+use Rattle.cat_tables.specs.Opened.{IsRead, is_first, rows_in}
 use Rattle.cat_tables.specs.First.{first}
 use Rattle.cat_tables.specs.Stored.{stored, tables, texts_of}
 use Rattle.cat_tables.specs.Told.{AreFirstNarrow, IsTold}

@@ -71,7 +71,7 @@ pub record AreMet (xs ys : List StoredRow) (at : RowKey) : Type 0 where
   pub text : text_in mine ≡ text_in yours
 
 -- a row that is found is one of the list, at its place
-found_row : (xs : List StoredRow) (at : RowKey) (b : StoredRow) → find row_cmp at (put_rows xs []) ≡ Some b → In b xs × (place b ≡ at)
+pub found_row : (xs : List StoredRow) (at : RowKey) (b : StoredRow) → find row_cmp at (put_rows xs []) ≡ Some b → In b xs × (place b ≡ at)
 found_row xs at b f = go (from_puts row_total row_antisymmetric (map keyed xs) [] at b f)
   where
     go : In (at, b) (map keyed xs) ⊎ (None ≡ Some b) → In b xs × (place b ≡ at)

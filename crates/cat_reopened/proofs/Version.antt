@@ -14,18 +14,18 @@ use Rattle.cat_keeper.specs.declared.table.Table.{Table}
 use Rattle.cat_keeper.specs.declared.table.Table.TheVariants as table
 use Rattle.cat_rows.specs.declared.row.StoredRow.{StoredRow}
 use Rattle.cat_rows.specs.declared.row.StoredRow.TheVariants.{Settings}
-use Rattle.cat_store.specs.Opened.{is_first, is_of_first, is_row_of_first}
+use Rattle.cat_tables.specs.Opened.{is_first, is_of_first, is_row_of_first}
 use Rattle.cat_tables.specs.Stored.{Stored, all_rows, is_blank, keyed, put_rows, rule_of, stored, text_in, texts_of}
 use Rattle.cat_tables.proofs.Leading.{row_antisymmetric, row_total}
 use Rattle.cat_tables.proofs.In.{In, in_map, in_puts, less_is}
 use Rattle.cat_reopened.proofs.Views.{has_settings}
 
 -- the last of these
-abbrev last : {A : Type 0} → A → List A → A
+abbrev pub last : {A : Type 0} → A → List A → A
 last x [] = x
 last x (y ∷ ys) = last y ys
 
-last_at : {A : Type 0} (x : A) (xs : List A) → slice_get (x ∷ xs) (length xs) ≡ Some (last x xs)
+pub last_at : {A : Type 0} (x : A) (xs : List A) → slice_get (x ∷ xs) (length xs) ≡ Some (last x xs)
 last_at x [] = refl
 last_at x (y ∷ ys) = last_at y ys
 

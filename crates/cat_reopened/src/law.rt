@@ -1,5 +1,5 @@
 //! What the rows of a state tell of it.
-ghost use Rattle.std.specs.Prelude.{◌≡◌};
+ghost use Rattle.std.specs.Prelude.{◌≡◌, ℕ, true};
 ghost use Rattle.cat_keeper.specs.Store.{Rows};
 ghost use Rattle.cat_model.specs.Catalogue.{Rules};
 ghost use Rattle.cat_model.specs.Formed.{FormRules, Formed};
@@ -7,14 +7,16 @@ ghost use Rattle.cat_model.specs.Sound.{Sound};
 ghost use Rattle.cat_model.specs.Step.{reopened, start};
 ghost use Rattle.cat_model.specs.declared.types.OrphanRule.{OrphanRule};
 ghost use Rattle.cat_model.specs.declared.types.State.{State};
+ghost use Rattle.cat_opening.specs.Forms.{has_forms};
 ghost use Rattle.cat_opening.specs.Start.{IsAtStart};
-ghost use Rattle.cat_store.specs.Opened.{IsRead};
+ghost use Rattle.cat_tables.specs.Opened.{IsRead};
 ghost use Rattle.cat_tables.specs.First.{first};
 ghost use Rattle.cat_tables.specs.Stored.{stored, tables, texts_of};
 ghost use Rattle.cat_tree.specs.Data.{Data};
 ghost use Rattle.cat_tree.specs.Proper.{IsNarrow};
 ghost use Rattle.cat_tree.specs.Text.{text_of};
 ghost use Rattle.cat_tables.specs.Told.{AreFirstNarrow, AreNarrow, IsTold};
+ghost use Rattle.cat_reopened.specs.Right.{AreReadTo, AreRowsOf, MayOpen, rested};
 ghost use Rattle.cat_reopened.specs.Told.{AreDue, HaveSameFirstTexts, HaveSameTexts, IsPlaced, IsReopened, OpensAs};
 
 /// The compact text of a tree whose numbers have 64 bits is that of no other such tree.
@@ -61,4 +63,10 @@ pub fn sound_states_are_told()
     ensures begins { IsTold start × IsPlaced start }
     ensures sound { (rules : Rules) (form : FormRules rules) (m : State) → Sound rules m → Formed form m → AreNarrow m → IsTold m }
     ensures first { (m : State) → IsTold m → IsPlaced m → AreFirstNarrow m }
+{}
+
+/// The rows of a state that opens, in either version, are read to the state as it is stored, in which all has the form that is tested before it opens.
+pub fn right_stores_are_read()
+    ensures read { (rules : Rules) (limit : ℕ) (m : State) (texts : Rows) → MayOpen rules limit m → AreRowsOf m texts → AreReadTo texts m }
+    ensures formed { (rules : Rules) (limit : ℕ) (m : State) → MayOpen rules limit m → has_forms (rested m) ≡ true }
 {}

@@ -5,6 +5,7 @@ ghost use Rattle.cat_model.specs.Reply as spec;
 ghost use Rattle.cat_table.specs.Table.{put_some};
 ghost use Rattle.cat_replies.specs.Shown as seen;
 
+use cat_model::rows::IndexedRows;
 use cat_model::types::{Row, State};
 use cat_ref::reference::Ref;
 use cat_table::key::Key;
@@ -82,23 +83,30 @@ fn push_conflict<'a>(
     }
 }
 
+// The rows, by arrival.
+fn entries(alloc: Global, rows: &IndexedRows) -> Result<Vec<&(u64, Row)>, AllocError>
+    ensures { IfOk result (λ entries. map (λ e. e.now) entries.items ≡ rows.now) }
+{
+    let mut entries = Vec::new(alloc);
+    for entry in rows.iter() {
+        entries.push(entry)?;
+    }
+    Ok(entries)
+}
+
 // The rows that don't hold, by reference and arrival.
 fn waiting(alloc: Global, state: &State) -> Result<Table<Place, &Row>, AllocError>
     ensures { IfOk result (λ t. map seen.waiting t ≡ spec.waiting state.now) }
 {
-    let rows = state.rows.as_slice();
+    let entries = entries(alloc, &state.rows)?;
+    let rows = entries.as_slice();
     let mut found = Table::new(alloc);
     let mut place = rows.len();
     while place > 0 {
         place -= 1;
-        let (arrival, row) = &rows[place];
-        put_waiting(
-            alloc,
-            &mut found,
-            &row.reference,
-            *arrival,
-            waits(state, *arrival),
-        )?;
+        let entry = rows[place];
+        let row = waits(state, entry.0);
+        put_waiting(alloc, &mut found, &entry.1.reference, entry.0, row)?;
     }
     Ok(found)
 }

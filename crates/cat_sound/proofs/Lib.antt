@@ -7,3 +7,4 @@ pub mod Offering
 pub mod Opening
 pub mod Reopening
 pub mod Stitching
+pub mod Passing

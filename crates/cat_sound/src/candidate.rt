@@ -67,10 +67,9 @@ fn are_right_orphans(m: &State, names: &Names) -> bool
 fn are_tables_sorted(m: &State) -> bool
     ensures { result ≡ spec.are_tables_sorted m.now }
 {
-    rise(m.rows.as_slice())
-        && rise(m.holders.as_slice())
-        && rise(m.records.as_slice())
-        && rise(m.orphans.as_slice())
+    m.rows.in_order();
+    m.holders.in_order();
+    rise(m.records.as_slice()) && rise(m.orphans.as_slice())
 }
 
 fn is_bare(m: &State) -> bool

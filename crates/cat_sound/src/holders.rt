@@ -5,10 +5,11 @@ ghost use Rattle.cat_model.specs.Catalogue.{row_at};
 ghost use Rattle.cat_sound.specs.Candidate as spec;
 ghost use Rattle.cat_sound.specs.Above as spec_above;
 
+use cat_model::rows::IndexedRows;
 use cat_model::types::{Origin, Row, State};
 use cat_ref::reference::Ref;
 use cat_table::key::Key;
-use cat_types::table::Table;
+use cat_table::map::Map;
 use std::cmp::Ordering;
 
 // What is above a row: a provider, the row that holds its emitter, or nothing.
@@ -28,7 +29,7 @@ fn above_emitter(holder: Option<&u64>) -> Above
     }
 }
 
-fn above_row(holders: &Table<Ref, u64>, row: Option<&Row>) -> Above
+fn above_row(holders: &Map<Ref, u64>, row: Option<&Row>) -> Above
     ensures { result ≡ spec_above.above_row holders.now (option_map (λ x. x.now) row.entry) }
 {
     match row {
@@ -40,19 +41,14 @@ fn above_row(holders: &Table<Ref, u64>, row: Option<&Row>) -> Above
     }
 }
 
-fn above_arrival(rows: &Table<u64, Row>, holders: &Table<Ref, u64>, arrival: u64) -> Above
+fn above_arrival(rows: &IndexedRows, holders: &Map<Ref, u64>, arrival: u64) -> Above
     ensures { result ≡ spec_above.above_row holders.now (row_at rows.now arrival) }
 {
     above_row(holders, rows.get(&arrival))
 }
 
 // Whether the chain of origins from the row with this arrival reaches a provider, within so many steps.
-fn reaches_provider(
-    rows: &Table<u64, Row>,
-    holders: &Table<Ref, u64>,
-    most: usize,
-    arrival: u64,
-) -> bool
+fn reaches_provider(rows: &IndexedRows, holders: &Map<Ref, u64>, most: usize, arrival: u64) -> bool
     ensures { result ≡ spec_above.climbs_from rows.now holders.now most arrival }
 {
     let mut at = arrival;
@@ -89,7 +85,7 @@ fn is_right_holder(m: &State, reference: &Ref, arrival: u64) -> bool
 pub fn are_right_holders(m: &State) -> bool
     ensures { result ≡ list_all (spec.is_right_holder m.now) m.now.holders }
 {
-    for (reference, arrival) in m.holders.as_slice() {
+    for (reference, arrival) in m.holders.iter() {
         if !is_right_holder(m, reference, *arrival) {
             return false;
         }

@@ -10,6 +10,7 @@ ghost use Rattle.cat_sound.specs.Candidate as spec;
 ghost use Rattle.cat_sound.specs.Indexed.{arrival_in, row_index, with_arrival};
 
 use cat_hold::hold::is_held;
+use cat_model::rows::IndexedRows;
 use cat_model::types::{Origin, ProviderInputs, Row, State};
 use cat_ref::reference::Ref;
 use cat_table::key::Key;
@@ -47,14 +48,14 @@ fn put_row(alloc: Global, arrival: u64, row: &Row, index: &mut RowIndex) -> Resu
 }
 
 /// The arrivals of these rows by origin and reference.
-pub fn index_of(alloc: Global, rows: &Table<u64, Row>) -> Result<RowIndex, AllocError>
+pub fn index_of(alloc: Global, rows: &IndexedRows) -> Result<RowIndex, AllocError>
     ensures { IfOk result (λ index. index ≡ row_index rows.now) }
 {
     let mut index = RowIndex {
         provided: Map::new(),
         emitted: Map::new(),
     };
-    for (arrival, row) in rows.as_slice() {
+    for (arrival, row) in rows.iter() {
         put_row(alloc, *arrival, row, &mut index)?;
     }
     Ok(index)
@@ -144,7 +145,7 @@ fn is_right_row(m: &State, index: &RowIndex, arrival: u64, row: &Row) -> bool
 pub fn are_right_rows(m: &State, index: &RowIndex) -> bool
     ensures { result ≡ list_all (spec.is_right_row m.now index.now) m.now.rows }
 {
-    for (arrival, row) in m.rows.as_slice() {
+    for (arrival, row) in m.rows.iter() {
         if !is_right_row(m, index, *arrival, row) {
             return false;
         }
@@ -152,7 +153,7 @@ pub fn are_right_rows(m: &State, index: &RowIndex) -> bool
     true
 }
 
-fn row_found<'a>(rows: &'a Table<u64, Row>, arrival: Option<&u64>) -> Option<&'a Row>
+fn row_found<'a>(rows: &'a IndexedRows, arrival: Option<&u64>) -> Option<&'a Row>
     ensures { option_map (λ x. x.now) result ≡ option_and_then (row_at rows.now) (option_map (λ x. x.now) arrival.entry) }
 {
     match arrival {
@@ -191,14 +192,14 @@ fn is_offer(emitter: &Ref, reference: &Ref, row: Option<&Row>) -> bool
     }
 }
 
-fn is_item_shown(rows: &Table<u64, Row>, index: &RowIndex, provider: &Text, reference: &Ref) -> bool
+fn is_item_shown(rows: &IndexedRows, index: &RowIndex, provider: &Text, reference: &Ref) -> bool
     ensures { result ≡ spec.is_shown rows.now index.now (Provider provider.now) reference.now }
 {
     let found = row_found(rows, provided_in(index, provider, reference));
     is_item(provider, reference, found)
 }
 
-fn is_offer_shown(rows: &Table<u64, Row>, index: &RowIndex, emitter: &Ref, reference: &Ref) -> bool
+fn is_offer_shown(rows: &IndexedRows, index: &RowIndex, emitter: &Ref, reference: &Ref) -> bool
     ensures { result ≡ spec.is_shown rows.now index.now (Entity emitter.now) reference.now }
 {
     let found = row_found(rows, emitted_in(index, emitter, reference));
@@ -206,14 +207,14 @@ fn is_offer_shown(rows: &Table<u64, Row>, index: &RowIndex, emitter: &Ref, refer
 }
 
 fn are_items_shown(
-    rows: &Table<u64, Row>,
+    rows: &IndexedRows,
     index: &RowIndex,
     provider: &Text,
     inputs: &ProviderInputs,
 ) -> bool
     ensures { result ≡ spec.are_items_shown rows.now index.now (provider.now, inputs.now) }
 {
-    for (reference, _) in inputs.items.as_slice() {
+    for (reference, _) in inputs.items.iter() {
         if !is_item_shown(rows, index, provider, reference) {
             return false;
         }
@@ -234,7 +235,7 @@ pub fn are_all_items_shown(m: &State, index: &RowIndex) -> bool
 }
 
 fn are_shown(
-    rows: &Table<u64, Row>,
+    rows: &IndexedRows,
     index: &RowIndex,
     emitter: &Ref,
     offers: &Table<Ref, Offered>,
@@ -251,7 +252,7 @@ fn are_shown(
 
 /// Whether each offer of a kept output has its row.
 pub fn are_offers_shown(
-    rows: &Table<u64, Row>,
+    rows: &IndexedRows,
     index: &RowIndex,
     emitter: &Ref,
     output: &Option<Output>,

@@ -4,3 +4,5 @@ pub mod Opening
 pub mod Telling
 pub mod Told
 pub mod Unstored
+pub mod Passes
+pub mod Accepting

@@ -1,5 +1,5 @@
 -- What opens and passes the test is told by its rows, and opens again as itself.
-use Rattle.std.proofs.Common.{◌≡◌, true, subst}
+use Rattle.std.proofs.Common.{◌≡◌, true, false, sym, ap, subst, ◌∙◌, is_some, true≢false}
 use Rattle.std.specs.Prelude.{IfSome}
 use Rattle.std.specs.declared.option.Option.{Option}
 use Rattle.std.specs.declared.option.Option.TheVariants.{None, Some}
@@ -7,6 +7,7 @@ use Rattle.cat_events.specs.Coming.{IsSteady}
 use Rattle.cat_model.specs.Catalogue.{Rules}
 use Rattle.cat_model.specs.Step.{reopened}
 use Rattle.cat_model.specs.declared.types.State.{State}
+use Rattle.cat_sound.specs.Candidate.{is_candidate}
 use Rattle.cat_sound.specs.declared.reopen.Opening.{Opening}
 use Rattle.cat_tables.specs.Told.{AreFirstNarrow, IsTold}
 use Rattle.cat_store.specs.Tells.{is_telling}
@@ -40,3 +41,9 @@ module _ (rules : Rules) (found kept : Option Opening) (same : IfSome kept (λ x
       go : (v : Option Opening) → IfSome v (λ x. x.state ≡ reopened rules m) → IfSome v (λ x. IsSteady rules x.links x.state) → IfSome v (λ x. reopened rules x.state ≡ x.state)
       go None e s = tt
       go (Some x) e s = reopens_as_itself rules m x.state e s.sound s.ordered
+
+-- where the candidate is a state and its rows tell what it opens as, it opens
+pub opens_told : (rules : Rules) (m : State) (found kept : Option Opening) → is_some found ≡ is_candidate m → IfSome found (λ x. x.state ≡ reopened rules m)
+    → (kept ≡ None → IfSome found (λ x. is_telling x.state ≡ false)) → is_candidate m ≡ true → is_telling (reopened rules m) ≡ true → kept ≡ None → ⊥
+opens_told rules m None kept exact state refused right tells none = true≢false (sym (exact ∙ right))
+opens_told rules m (Some x) kept exact state refused right tells none = true≢false (sym (ap is_telling state ∙ tells) ∙ refused none)

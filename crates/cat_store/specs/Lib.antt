@@ -1,3 +1,4 @@
 pub mod Narrow
 pub mod Opened
 pub mod Tells
+pub mod Refused

@@ -1,5 +1,5 @@
 //! Opening a store.
-ghost use Rattle.std.specs.Prelude.{◌≡◌, ◌≢◌, ◌≤◌, true, IfErr, IfOk, IfSome, Option, option_map};
+ghost use Rattle.std.specs.Prelude.{◌≡◌, ◌≢◌, ◌↔◌, ◌≤◌, ◌&&◌, IsTrue, false, true, IfErr, IfOk, IfSome, Option, nat_le, option_map};
 ghost use Rattle.std.specs.declared.option.Option.TheVariants.{None, Some};
 ghost use Rattle.cat_events.specs.Coming.{IsSteady};
 ghost use Rattle.cat_io.specs.Causes.{Rose};
@@ -7,7 +7,11 @@ ghost use Rattle.cat_keeper.specs.Answers.{Are, Stays};
 ghost use Rattle.cat_keeper.specs.Store.{applied};
 ghost use Rattle.cat_model.specs.Sound.{AreBegun};
 ghost use Rattle.cat_model.specs.Step.{reopened};
+ghost use Rattle.cat_opening.specs.Forms.{has_forms};
+ghost use Rattle.cat_reopened.specs.Right.{AreOfNone};
+ghost use Rattle.cat_sound.specs.Candidate.{is_candidate};
 ghost use Rattle.cat_store.specs.Opened.{HasRule, IsRead, is_first, is_of_first, is_row_of_first, rows_in};
+ghost use Rattle.cat_store.specs.Refused.{IsRefused};
 ghost use Rattle.cat_store.specs.Tells.{is_telling};
 ghost use Rattle.cat_tables.specs.Stored.{stored, texts_of};
 ghost use Rattle.cat_tables.specs.Told.{AreFirstNarrow, IsTold};
@@ -21,12 +25,15 @@ use cat_keeper::table::Table;
 use cat_links::links::Links;
 use cat_model::types::{OrphanRule, State};
 use cat_opening::candidate::candidate;
+use cat_opening::forms::has_forms;
 use cat_opening::types::OpenFault as Unread;
+use cat_opening::wrong::wrong_row;
 use cat_sound::reopen::{Opening, opened};
 use cat_table::listing::Copied;
 use cat_tables::batch::batch_to;
 use cat_tables::first::first_rows;
 use cat_tables::stored::{Stored, stored_rows};
+use cat_tables::texts::texts;
 use cat_tree::text::Text;
 use std::alloc::{AllocError, Global};
 
@@ -35,20 +42,11 @@ use std::alloc::{AllocError, Global};
 pub enum OpenFault {
     /// The keeper failed: it counted a fault.
     Keeper,
-    /// The first row, in order of table and key, that has no reading or breaks a rule of stores.
+    /// The first row, in order of table and key, that has no reading or breaks a rule of stores; of rows that each keep to the rules, the first
+    /// that a store of the state which they stand for lacks.
     Row(Table, Text),
     /// Want of memory.
     NoMemory,
-}
-
-// Why rows can't be opened, as why their store can't.
-fn unread(fault: Unread) -> OpenFault
-    ensures { result ≢ OpenFault.Keeper }
-{
-    match fault {
-        Unread::Row(table, key) => OpenFault::Row(table, key),
-        Unread::NoMemory => OpenFault::NoMemory,
-    }
 }
 
 /// A catalogue's state with the relations of its kept outputs, and the store that follows it.
@@ -99,21 +97,6 @@ fn is_first(rows: &StoredRows) -> bool
     is_row_of_first(rows.at(rows.len().saturating_sub(1)))
 }
 
-// The first row that differs from those of a state, if one does.
-fn differing(
-    alloc: Global,
-    rows: &StoredRows,
-    wanted: &Stored,
-) -> Result<Option<Unread>, AllocError>
-    ensures { IfOk result (λ o. o ≡ None → texts_of wanted.now ≡ rows.now) }
-{
-    let batch = batch_to(alloc, rows, wanted)?;
-    match batch.at(0) {
-        None => Ok(None),
-        Some(((table, key), _)) => Ok(Some(Unread::Row(*table, key.duplicate(alloc)?))),
-    }
-}
-
 // The rows of a state under a rule for orphans, in the first version or else in the second.
 fn rows_in(
     alloc: Global,
@@ -132,31 +115,68 @@ fn rows_in(
 
 // The rule for orphans of a store, where this one was found among its rows: the first version has none, and keeps.
 fn stored_rule(is_first: bool, found: OrphanRule) -> OrphanRule
-    ensures { is_first ≡ true → result ≡ OrphanRule.Keep }
+    ensures first { is_first ≡ true → result ≡ OrphanRule.Keep }
+    ensures second { is_first ≡ false → result ≡ found }
 {
     if is_first { OrphanRule::Keep } else { found }
 }
 
-// The refusal of a store whose rows aren't those of the state that was read, in the version that they are of.
-fn checked(
+// Whether the rows are those of a state, in the version that they are of.
+fn are_rows_of(
     alloc: Global,
     rows: &StoredRows,
     orphans: OrphanRule,
     state: &State,
-) -> Result<(), Unread>
-    ensures { IfOk result (λ _. texts_of (rows_in (is_first rows.now) orphans state.now) ≡ rows.now) }
+) -> Result<bool, AllocError>
+    ensures rows { IfOk result (λ b. b ≡ true → texts_of (rows_in (is_first rows.now) orphans state.now) ≡ rows.now) }
+    ensures differ { IfOk result (λ b. b ≡ false → texts_of (rows_in (is_first rows.now) orphans state.now) ≢ rows.now) }
 {
     let wanted = rows_in(alloc, is_first(rows), orphans, state)?;
-    match differing(alloc, rows, &wanted)? {
-        None => Ok(()),
-        Some(fault) => Err(fault),
+    are_texts_of(alloc, rows, &wanted)
+}
+
+// Whether these are the texts of rows.
+fn are_texts_of(alloc: Global, rows: &StoredRows, wanted: &Stored) -> Result<bool, AllocError>
+    ensures rows { IfOk result (λ b. b ≡ true → texts_of wanted.now ≡ rows.now) }
+    ensures differ { IfOk result (λ b. b ≡ false → texts_of wanted.now ≢ rows.now) }
+{
+    let told = texts(alloc, wanted)?;
+    Ok(are_same(&told, rows))
+}
+
+// Whether rows are the same.
+fn are_same(left: &StoredRows, right: &StoredRows) -> bool
+    ensures same { result ≡ true → left.now ≡ right.now }
+    ensures differ { result ≡ false → left.now ≢ right.now }
+{
+    let mut others = right.iter();
+    for row in left.iter() {
+        match others.next() {
+            Some(other) => {
+                if !is_same_row(row, other) {
+                    return false;
+                }
+            }
+            None => return false,
+        }
     }
+    others.next().is_none()
+}
+
+// Whether two rows are one.
+fn is_same_row(left: &((Table, Text), Text), right: &((Table, Text), Text)) -> bool
+    ensures { IsTrue result ↔ (left.now ≡ right.now) }
+{
+    left.0.0 == right.0.0
+        && left.0.1.as_str() == right.0.1.as_str()
+        && left.1.as_str() == right.1.as_str()
 }
 
 // What was opened, where its rows tell its state.
 fn telling(found: Option<Opening>) -> Option<Opening>
     ensures same { IfSome result (λ x. found ≡ Some x) }
     ensures tells { IfSome result (λ x. is_telling x.state ≡ true) }
+    ensures opens { result ≡ None → IfSome found (λ x. is_telling x.state ≡ false) }
 {
     let opening = found?;
     if is_telling(&opening.state) {
@@ -177,46 +197,133 @@ fn told<L: Layers>(
     ensures tells { IfOk result (λ o. IfSome o (λ x. IsTold x.state)) }
     ensures tells_first { IfOk result (λ o. IfSome o (λ x. AreFirstNarrow x.state)) }
     ensures again { IfOk result (λ o. IfSome o (λ x. reopened L.rules x.state ≡ x.state)) }
+    ensures state { IfOk result (λ o. IfSome o (λ x. x.state ≡ reopened L.rules candidate)) }
+    ensures opens { IfOk result (λ o. is_candidate candidate ≡ true → is_telling (reopened L.rules candidate) ≡ true → o ≢ None) }
 {
     let found = opened(alloc, layers, candidate)?;
     Ok(telling(found))
 }
 
-// Reads rows, under this rule for orphans or else the stored one.
+// Whether all that a state keeps has its form, and its inputs are within the limit.
+fn is_right<L: Layers>(
+    alloc: Global,
+    layers: &L,
+    m: &State,
+    input_limit: u64,
+) -> Result<bool, AllocError>
+    ensures { IfOk result (λ b. b ≡ (has_forms m.now && nat_le (L.rules.bytes m.now.providers m.now.shelf) input_limit)) }
+{
+    let has_forms = has_forms(alloc, m)?;
+    let bytes = layers.bytes(alloc, &m.providers, &m.shelf)?;
+    Ok(has_forms && bytes <= input_limit)
+}
+
+// What the rows of a store open as, with the rule for orphans that they have.
+#[derive(Drop)]
+struct Found {
+    state: State,
+    links: Links,
+    orphans: OrphanRule,
+}
+
+// What rows open as: none where they are those of no state that opens.
+fn found_in<L: Layers>(
+    alloc: Global,
+    layers: &L,
+    rows: &StoredRows,
+    input_limit: u64,
+) -> Result<Option<Found>, AllocError>
+    ensures steady { IfOk result (λ o. IfSome o (λ x. IsSteady L.rules x.links x.state)) }
+    ensures begun { IfOk result (λ o. IfSome o (λ x. AreBegun x.state)) }
+    ensures tells { IfOk result (λ o. IfSome o (λ x. IsTold x.state)) }
+    ensures tells_first { IfOk result (λ o. IfSome o (λ x. AreFirstNarrow x.state)) }
+    ensures again { IfOk result (λ o. IfSome o (λ x. reopened L.rules x.state ≡ x.state)) }
+    ensures rule { IfOk result (λ o. IfSome o (λ x. HasRule rows.now x.orphans x.state)) }
+    ensures opens { IfOk result (λ o. o ≡ None → AreOfNone L.rules input_limit rows.now) }
+{
+    let Some(candidate) = candidate(alloc, rows)? else {
+        return Ok(None);
+    };
+    if !is_right(alloc, layers, &candidate.state, input_limit)? {
+        return Ok(None);
+    }
+    let orphans = stored_rule(is_first(rows), candidate.rule);
+    let Some(opening) = told(alloc, layers, candidate.state)? else {
+        return Ok(None);
+    };
+    if !are_rows_of(alloc, rows, orphans, &opening.state)? {
+        return Ok(None);
+    }
+    Ok(Some(Found {
+        state: opening.state,
+        links: opening.links,
+        orphans,
+    }))
+}
+
+// Reads rows, under this rule for orphans or else the stored one: none where they are those of no state that opens.
 fn read<L: Layers>(
     alloc: Global,
     layers: &L,
     rows: &StoredRows,
     orphans: Option<OrphanRule>,
     input_limit: u64,
-) -> Result<Reading, Unread>
-    ensures steady { IfOk result (λ x. IsSteady L.rules x.links x.state) }
-    ensures begun { IfOk result (λ x. AreBegun x.state) }
-    ensures tells { IfOk result (λ x. IsTold x.state) }
-    ensures tells_first { IfOk result (λ x. AreFirstNarrow x.state) }
-    ensures again { IfOk result (λ x. reopened L.rules x.state ≡ x.state) }
-    ensures read { IfOk result (λ x. IsRead rows.now x.state) }
-    ensures rule { IfOk result (λ x. IfSome orphans (λ rule. x.orphans ≡ rule)) }
-    ensures kept { IfOk result (λ x. orphans ≡ None → HasRule rows.now x.orphans x.state) }
-    ensures rows { IfOk result (λ x. x.rows ≡ stored x.orphans x.state) }
-    ensures batch { IfOk result (λ x. applied x.batch rows.now ≡ texts_of x.rows) }
+) -> Result<Option<Reading>, AllocError>
+    ensures steady { IfOk result (λ o. IfSome o (λ x. IsSteady L.rules x.links x.state)) }
+    ensures begun { IfOk result (λ o. IfSome o (λ x. AreBegun x.state)) }
+    ensures tells { IfOk result (λ o. IfSome o (λ x. IsTold x.state)) }
+    ensures tells_first { IfOk result (λ o. IfSome o (λ x. AreFirstNarrow x.state)) }
+    ensures again { IfOk result (λ o. IfSome o (λ x. reopened L.rules x.state ≡ x.state)) }
+    ensures read { IfOk result (λ o. IfSome o (λ x. IsRead rows.now x.state)) }
+    ensures rule { IfOk result (λ o. IfSome o (λ x. IfSome orphans (λ rule. x.orphans ≡ rule))) }
+    ensures kept { IfOk result (λ o. IfSome o (λ x. orphans ≡ None → HasRule rows.now x.orphans x.state)) }
+    ensures rows { IfOk result (λ o. IfSome o (λ x. x.rows ≡ stored x.orphans x.state)) }
+    ensures batch { IfOk result (λ o. IfSome o (λ x. applied x.batch rows.now ≡ texts_of x.rows)) }
+    ensures opens { IfOk result (λ o. o ≡ None → AreOfNone L.rules input_limit rows.now) }
 {
-    let found = candidate(alloc, rows, input_limit)?;
-    let Some(opening) = told(alloc, layers, found.state)? else {
-        return Err(Unread::Row(Table::Counters, Text::of(alloc, "arrival")?));
+    let Some(found) = found_in(alloc, layers, rows, input_limit)? else {
+        return Ok(None);
     };
-    let stored = stored_rule(is_first(rows), found.rule);
-    checked(alloc, rows, stored, &opening.state)?;
-    let orphans = orphans.unwrap_or(stored);
-    let wanted = stored_rows(alloc, orphans, &opening.state)?;
+    let orphans = orphans.unwrap_or(found.orphans);
+    let wanted = stored_rows(alloc, orphans, &found.state)?;
     let batch = batch_to(alloc, rows, &wanted)?;
-    Ok(Reading {
-        state: opening.state,
-        links: opening.links,
+    Ok(Some(Reading {
+        state: found.state,
+        links: found.links,
         orphans,
         rows: wanted,
         batch,
-    })
+    }))
+}
+
+// The first row in which the rows of a store differ from those of the state that they stand for; the first counter where none does.
+fn differing(alloc: Global, rows: &StoredRows) -> Result<Unread, AllocError> {
+    if let Some(candidate) = candidate(alloc, rows)? {
+        let wanted = rows_in(alloc, is_first(rows), candidate.rule, &candidate.state)?;
+        let batch = batch_to(alloc, rows, &wanted)?;
+        if let Some(((table, key), _)) = batch.at(0) {
+            return Ok(Unread::Row(*table, key.duplicate(alloc)?));
+        }
+    }
+    Ok(Unread::Row(Table::Counters, Text::of(alloc, "arrival")?))
+}
+
+// The wrong row of a store that can't be opened.
+fn wrong(alloc: Global, rows: &StoredRows, input_limit: u64) -> Result<Unread, AllocError> {
+    match wrong_row(alloc, rows, input_limit)? {
+        Some(fault) => Ok(fault),
+        None => differing(alloc, rows),
+    }
+}
+
+// The refusal of a store that can't be opened.
+fn refusal(alloc: Global, rows: &StoredRows, input_limit: u64) -> OpenFault
+    ensures { result ≢ OpenFault.Keeper }
+{
+    match wrong(alloc, rows, input_limit) {
+        Ok(Unread::Row(table, key)) => OpenFault::Row(table, key),
+        Ok(Unread::NoMemory) | Err(_) => OpenFault::NoMemory,
+    }
 }
 
 /// Opens the store that a keeper has for a place, under this rule for orphans, or else under the stored one, which is `Keep` where none
@@ -224,7 +331,9 @@ fn read<L: Layers>(
 /// that of its parts. A store of the first version is brought to the second, and another rule than the stored one is stored, by one commit.
 /// The state is one that its rows tell, in either version, and opens again as itself.
 ///
-/// `Keeper` comes only where the keeper's count of faults rose in this call. After an error the keeper's tables are as before.
+/// A row is refused only where the store has the rows of no state that opens: a store that has those of a sound catalogue in either version,
+/// within its limits, opens. `Keeper` comes only where the keeper's count of faults rose in this call. After an error the keeper's tables are
+/// as before.
 pub fn open<L: Layers, K: Keeper>(
     alloc: Global,
     layers: &L,
@@ -248,6 +357,7 @@ pub fn open<L: Layers, K: Keeper>(
     ensures same { IfErr result (λ e. Stays (K.tables place keeper) (K.tables place e.1)) }
     ensures later_still { IfErr result (λ e. K.faults keeper ≤ K.faults e.1) }
     ensures cause { IfErr result (λ e. e.0 ≡ OpenFault.Keeper → Rose (K.faults keeper) (K.faults e.1)) }
+    ensures opens { IfErr result (λ e. IfSome (K.tables place keeper) (λ rows. IsRefused L.rules input_limit rows e.0)) }
 {
     let mut keeper = keeper;
     let rows = match keeper.load(alloc, &place) {
@@ -256,8 +366,9 @@ pub fn open<L: Layers, K: Keeper>(
         Loaded::NoMemory => return Err((OpenFault::NoMemory, keeper)),
     };
     let reading = match read(alloc, layers, &rows, orphans, input_limit) {
-        Ok(reading) => reading,
-        Err(fault) => return Err((unread(fault), keeper)),
+        Ok(Some(reading)) => reading,
+        Ok(None) => return Err((refusal(alloc, &rows, input_limit), keeper)),
+        Err(_) => return Err((OpenFault::NoMemory, keeper)),
     };
     match commit(alloc, &mut keeper, &reading.batch) {
         Committed::Kept => Ok(Opened {

@@ -7,6 +7,7 @@ ghost use Rattle.cat_store.specs.Narrow.{is_narrow};
 ghost use Rattle.cat_store.specs.Tells as spec;
 
 use crate::narrow::is_narrow;
+use cat_model::rows::IndexedRows;
 use cat_model::types::{Orphan, ProviderInputs, Record, Row, State};
 use cat_ref::reference::Ref;
 use cat_table::map::rise;
@@ -18,7 +19,8 @@ use cat_types::work::Output;
 fn is_right_provider(serial: u64, inputs: &ProviderInputs) -> bool
     ensures { result ≡ (nat_lt serial (2 ^ 64) && is_sorted text_cmp inputs.now.items) }
 {
-    rise(inputs.items.as_slice())
+    inputs.items.in_order();
+    true
 }
 
 fn are_right_providers(providers: &[(Text, ProviderInputs)]) -> bool
@@ -38,10 +40,10 @@ fn is_narrow_row(arrival: u64, row: &Row) -> bool
     is_narrow(row.offered.tree.tree())
 }
 
-fn are_narrow_rows(rows: &[(u64, Row)]) -> bool
+fn are_narrow_rows(rows: &IndexedRows) -> bool
     ensures { result ≡ list_all spec.is_narrow_row rows.now }
 {
-    for (arrival, row) in rows {
+    for (arrival, row) in rows.iter() {
         if !is_narrow_row(*arrival, row) {
             return false;
         }
@@ -116,7 +118,7 @@ pub(crate) fn is_telling(m: &State) -> bool
     rise(m.providers.as_slice())
         && rise(m.shelf.as_slice())
         && are_right_providers(m.providers.as_slice())
-        && are_narrow_rows(m.rows.as_slice())
+        && are_narrow_rows(&m.rows)
         && are_narrow_records(m.records.as_slice())
         && are_narrow_orphans(m.orphans.as_slice())
 }

@@ -1,17 +1,15 @@
 -- Each step of a walk over old and new rows leads on.
-use Rattle.std.proofs.Common.{◌≡◌, ℕ, zero, suc, ◌+◌, Bool, true, false, not, cond, ◌&&◌, List, [], ◌∷◌, ◌++◌, take, drop, refl, sym, ap, subst, ◌∙◌, true≢false, Ordering, Less, Equal, Greater, append-nil}
-use Rattle.std.specs.Prelude.{⊤, slice_get}
-use Rattle.std.specs.declared.option.Option.{Option}
-use Rattle.std.specs.declared.option.Option.TheVariants.{None, Some}
-use Rattle.std.specs.Ordering.{eq_by_cmp, is_eq, is_lt, ordering_reverse}
+use Rattle.std.proofs.Common.{◌≡◌, Bool, true, false, not, cond, ◌&&◌, List, [], ◌∷◌, ◌++◌, refl, sym, ap, subst, ◌∙◌, true≢false, Ordering, Less, Equal, Greater}
+use Rattle.std.specs.Prelude.{⊤}
+use Rattle.std.specs.Ordering.{is_eq, is_lt, ordering_reverse}
 use Rattle.std.specs.Cmp.{IsTotalOrder, tied_itself}
 use Rattle.std.specs.FinMap.{IsAntisymmetric}
 use Rattle.std.specs.FinMap.Entries.{below_all, by_order, is_sorted}
 use Rattle.cat_table.specs.Pairs.{pair_antisymmetric, pair_total}
 use Rattle.cat_table.specs.Rows.{without}
-use Rattle.cat_table.specs.Table.{Text, put, text_antisymmetric, text_cmp, text_total}
+use Rattle.cat_table.specs.Table.{Text, put, text_antisymmetric, text_total}
 use Rattle.cat_keeper.specs.Store.{RowKey, Rows, Changes, row_cmp, applied, changed}
-use Rattle.cat_keeper.specs.Tables.{table_antisymmetric, table_cmp, table_total}
+use Rattle.cat_keeper.specs.Tables.{table_antisymmetric, table_total}
 use Rattle.cat_keeper.specs.declared.rows.Change.{Change}
 use Rattle.cat_keeper.specs.declared.rows.Change.TheVariants.{Put, Gone}
 use Rattle.cat_tables.specs.Walk.{Leads, Precede, told_all}

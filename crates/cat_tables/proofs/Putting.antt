@@ -1,8 +1,8 @@
 -- Entries that are put in parts.
-use Rattle.std.proofs.Common.{◌≡◌, List, [], ◌∷◌, ◌++◌, map, refl, sym, ap, ◌∙◌, Ordering}
+use Rattle.std.proofs.Common.{◌≡◌, List, [], ◌∷◌, ◌++◌, refl, sym, ap, ◌∙◌, Ordering}
 use Rattle.cat_table.specs.Table.{put, puts}
 use Rattle.cat_rows.specs.declared.row.StoredRow.{StoredRow}
-use Rattle.cat_tables.specs.Stored.{Stored, keyed, put_rows}
+use Rattle.cat_tables.specs.Stored.{Stored, put_rows}
 
 pub puts_parts : {K V : Type 0} (R : K → K → Ordering) (xs ys m : List (K × V)) → puts R (xs ++ ys) m ≡ puts R ys (puts R xs m)
 puts_parts R [] ys m = refl

@@ -1,5 +1,5 @@
 -- Texts are told as they are.
-use Rattle.std.proofs.Common.{◌≡◌, List, [], ◌∷◌, refl, sym, ap, ◌∙◌}
+use Rattle.std.proofs.Common.{◌≡◌, [], ◌∷◌, refl, sym, ap, ◌∙◌}
 use Rattle.std.specs.Prelude.{Result, Ok, Err, IfOk}
 use Rattle.cat_keeper.specs.Store.{Changes, Rows, applied}
 use Rattle.cat_tables.specs.Walk.{told_all}

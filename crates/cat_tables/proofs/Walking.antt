@@ -1,16 +1,15 @@
 -- Each step of a walk by places.
-use Rattle.std.proofs.Common.{◌≡◌, ℕ, zero, suc, ◌+◌, ◌-◌, ◌<◌, Bool, true, false, ◌&&◌, List, [], ◌∷◌, ◌++◌, take, drop, length, refl, sym, ap, subst, ◌∙◌, true≢false, Ordering, Less, Equal, Greater, append-nil, take-append-drop, arith}
+use Rattle.std.proofs.Common.{◌≡◌, ℕ, zero, suc, ◌+◌, ◌-◌, ◌<◌, true, List, [], ◌∷◌, ◌++◌, take, drop, length, refl, sym, ap, subst, ◌∙◌, Less, Equal, Greater, append-nil, take-append-drop, arith}
 use Rattle.std.specs.Prelude.{slice_get, IsTrue}
 use Rattle.std.specs.declared.option.Option.TheVariants.{None, Some}
 use Rattle.std.specs.Ordering.{is_lt, ordering_reverse}
 use Rattle.std.specs.FinMap.Entries.{below_all, is_sorted}
 use Rattle.cat_table.specs.Table.{Text, put}
-use Rattle.cat_keeper.specs.Store.{RowKey, Rows, Changes, row_cmp, applied}
-use Rattle.cat_keeper.specs.declared.rows.Change.{Change}
+use Rattle.cat_keeper.specs.Store.{RowKey, Changes, row_cmp, applied}
 use Rattle.cat_keeper.specs.declared.rows.Change.TheVariants.{Put, Gone}
 use Rattle.cat_table.proofs.Sides.{drop_get}
-use Rattle.cat_tables.specs.Walk.{Leads, Precede, told_all}
-use Rattle.cat_tables.proofs.Leading.{both, came, first, gone, is_less, lower, row_antisymmetric, row_total, second, stayed, turned}
+use Rattle.cat_tables.specs.Walk.{Leads, told_all}
+use Rattle.cat_tables.proofs.Leading.{both, came, first, gone, lower, row_antisymmetric, row_total, second, stayed, turned}
 
 none_drop : {A : Type 0} (xs : List A) (i : ℕ) → slice_get xs i ≡ None → drop i xs ≡ []
 none_drop [] zero h = refl

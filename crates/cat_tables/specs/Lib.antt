@@ -2,3 +2,4 @@ pub mod Stored
 pub mod First
 pub mod Walk
 pub mod Told
+pub mod Opened

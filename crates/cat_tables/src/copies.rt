@@ -16,7 +16,6 @@ use cat_tree::text::Text;
 use cat_types::input::Offered;
 use cat_types::issue::Issue;
 use cat_types::node::Node;
-use cat_types::table::Table;
 use cat_types::work::Output;
 use std::alloc::{AllocError, Global};
 
@@ -181,7 +180,7 @@ fn output_row(
 }
 
 // The arrival number of the row that holds a reference; 0 where none does.
-fn holder_of(holders: &Table<Ref, u64>, reference: &Ref) -> u64
+fn holder_of(holders: &Map<Ref, u64>, reference: &Ref) -> u64
     ensures { result ≡ unwrap_or (get holders.now reference.now) 0 }
 {
     match holders.get(reference) {
@@ -232,7 +231,7 @@ fn record_one(
 pub fn record_row(
     alloc: Global,
     version: Version,
-    holders: &Table<Ref, u64>,
+    holders: &Map<Ref, u64>,
     arrivals: &Emitted,
     reference: &Ref,
     record: &Record,

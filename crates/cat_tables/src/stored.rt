@@ -6,6 +6,7 @@ ghost use Rattle.cat_tables.specs.Stored as spec;
 use crate::copies::{Emitted, item_row, orphan_row, provider_row, record_row, rule_of, shelf_row};
 use crate::version::Version;
 use cat_keeper::table::Table;
+use cat_model::rows::IndexedRows;
 use cat_model::types::{Origin, Orphan, OrphanRule, ProviderInputs, Record, Row, State};
 use cat_ref::reference::Ref;
 use cat_rows::row::{StoredCounter, StoredRow};
@@ -14,7 +15,6 @@ use cat_table::listing::Copied;
 use cat_table::map::Map;
 use cat_tree::text::Text;
 use cat_types::node::Node;
-use cat_types::table::Table as Entries;
 use std::alloc::{AllocError, Global};
 
 /// Rows, each under its table and its key, in order of these.
@@ -101,11 +101,11 @@ fn put_all_given(
     alloc: Global,
     made: &mut Stored,
     version: Version,
-    rows: &[(u64, Row)],
+    rows: &IndexedRows,
 ) -> Result<(), AllocError>
     ensures { OnOk result (made.new ≡ spec.put_rows (flat_map (spec.given_in version) rows.now) made.old) }
 {
-    for (arrival, row) in rows {
+    for (arrival, row) in rows.iter() {
         put_given(alloc, made, version, *arrival, row)?;
     }
     Ok(())
@@ -141,11 +141,11 @@ fn note_row(
 
 // The arrival number of the last row of each emitter and reference.
 #[tactic(auto, using(crate::proofs::Putting::puts_parts))]
-fn emitted(alloc: Global, rows: &[(u64, Row)]) -> Result<Emitted, AllocError>
+fn emitted(alloc: Global, rows: &IndexedRows) -> Result<Emitted, AllocError>
     ensures { IfOk result (λ arrivals. arrivals ≡ spec.emitted rows.now) }
 {
     let mut arrivals = Map::new();
-    for (arrival, row) in rows {
+    for (arrival, row) in rows.iter() {
         note_row(alloc, &mut arrivals, *arrival, row)?;
     }
     Ok(arrivals)
@@ -156,7 +156,7 @@ fn put_records(
     alloc: Global,
     made: &mut Stored,
     version: Version,
-    holders: &Entries<Ref, u64>,
+    holders: &Map<Ref, u64>,
     arrivals: &Emitted,
     records: &[(Ref, Record)],
 ) -> Result<(), AllocError>
@@ -219,9 +219,9 @@ pub(crate) fn put_kept(
     ensures { OnOk result (made.new ≡ spec.put_rows (spec.kept_in version m.now) made.old) }
 {
     put_providers(alloc, made, m.providers.as_slice())?;
-    put_all_given(alloc, made, version, m.rows.as_slice())?;
+    put_all_given(alloc, made, version, &m.rows)?;
     put_shelf(alloc, made, m.shelf.as_slice())?;
-    let arrivals = emitted(alloc, m.rows.as_slice())?;
+    let arrivals = emitted(alloc, &m.rows)?;
     put_records(
         alloc,
         made,

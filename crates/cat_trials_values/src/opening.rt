@@ -3,7 +3,8 @@ use cat_keeper::rows::StoredRows;
 use cat_keeper::table::Table;
 use cat_model::types::{Origin, OrphanRule};
 use cat_opening::candidate::candidate;
-use cat_opening::types::{Candidate, OpenFault, Version};
+use cat_opening::types::{Candidate, OpenFault};
+use cat_opening::wrong::wrong_row;
 use cat_table::map::Map;
 use cat_tree::text::Text;
 use std::alloc::{AllocError, Global};
@@ -105,7 +106,7 @@ fn put_lines(alloc: Global, rows: &mut StoredRows, lines: &str) -> Result<(), Al
 }
 
 fn push_rows(out: &mut String, alloc: Global, candidate: &Candidate) -> Result<(), AllocError> {
-    for (arrival, row) in candidate.state.rows.as_slice() {
+    for (arrival, row) in candidate.state.rows.iter() {
         let reference = row.reference.as_str();
         let key = row.offered.key.as_str();
         let origin = match &row.origin {
@@ -129,7 +130,7 @@ fn push_records(out: &mut String, alloc: Global, candidate: &Candidate) -> Resul
         };
         out.push_str(format!(in alloc; " {reference}#{number}/{issues}/{offers}/{due}")?.as_str())?;
     }
-    for (reference, arrival) in candidate.state.holders.as_slice() {
+    for (reference, arrival) in candidate.state.holders.iter() {
         let reference = reference.as_str();
         out.push_str(format!(in alloc; " {reference}={arrival}")?.as_str())?;
     }
@@ -156,12 +157,16 @@ fn push_others(out: &mut String, alloc: Global, candidate: &Candidate) -> Result
     Ok(())
 }
 
+// The version of a store with these rows, by the table of the last one.
+fn version_of(rows: &StoredRows) -> u8 {
+    match rows.at(rows.len().saturating_sub(1)) {
+        Some(row) if row.0.0.number() < Table::Settings.number() => 1,
+        _ => 2,
+    }
+}
+
 // What a candidate is, in short.
-fn shown(alloc: Global, candidate: &Candidate) -> Result<String, AllocError> {
-    let version = match candidate.version {
-        Version::One => 1,
-        Version::Two => 2,
-    };
+fn shown(alloc: Global, version: u8, candidate: &Candidate) -> Result<String, AllocError> {
     let rule = match candidate.rule {
         OrphanRule::Keep => "keep",
         OrphanRule::Delete => "delete",
@@ -176,14 +181,17 @@ fn shown(alloc: Global, candidate: &Candidate) -> Result<String, AllocError> {
 }
 
 fn opened(alloc: Global, rows: &StoredRows, limit: u64) -> Result<String, AllocError> {
-    match candidate(alloc, rows, limit) {
-        Ok(candidate) => shown(alloc, &candidate),
-        Err(OpenFault::Row(table, key)) => {
+    match wrong_row(alloc, rows, limit)? {
+        Some(OpenFault::Row(table, key)) => {
             let table = table.name();
             let key = key.as_str();
             format!(in alloc; "{table} {key}")
         }
-        Err(OpenFault::NoMemory) => Err(AllocError),
+        Some(OpenFault::NoMemory) => Err(AllocError),
+        None => match candidate(alloc, rows)? {
+            Some(candidate) => shown(alloc, version_of(rows), &candidate),
+            None => String::from_str(alloc, "not read"),
+        },
     }
 }
 

@@ -1,10 +1,13 @@
-use Rattle.std.proofs.Common.{◌≡◌, ◌≤◌, length, drop, option_map}
+use Rattle.std.proofs.Common.{◌≡◌, option_map}
+use Rattle.cat_table.specs.Left.{items_left}
 use Rattle.cat_core.specs.Waits.{nearest, place_of}
+use Rattle.cat_core.proofs.Nearer.{nearest_with}
 use Rattle.cat_core.proofs.waiting.nearest.Given as goal
 
-abbrev pub invariant-loop-left : goal.invariant-loop-left
-invariant-loop-left l =
-    (l.left ≤ length l.rows) × (option_map (λ e. place_of e.now) l.best ≡ nearest l.m (option_map (λ e. place_of e.now) l.after) (drop l.left l.rows))
-
-abbrev pub decreases-loop-left : goal.decreases-loop-left
-decreases-loop-left l = l.left
+-- with the rows that are left, the best so far comes to the nearest of all
+abbrev pub invariant-loop-row : goal.invariant-loop-row
+invariant-loop-row l =
+    goal.iterator-loop-row.can_next l.row-iterator
+    × goal.iterator-loop-row.is_finite l.row-iterator
+    × (nearest_with l.m (option_map (λ e. place_of e.now) l.after) (items_left l.row-iterator) (option_map (λ e. place_of e.now) l.best)
+    ≡ nearest l.m (option_map (λ e. place_of e.now) l.after) l.rows)

@@ -4,4 +4,4 @@ use Rattle.cat_core.proofs.Nearest.{nearest_is}
 use Rattle.cat_core.proofs.waiting.next_waiting.Goals as goal
 
 pub returns : goal.returns
-returns c = c.nearest.ensures ∙ nearest_is c.args.m.now (option_map (λ e. place_of e.now) c.args.after) c.requires c.as_slice.result.now c.as_slice.ensures
+returns c = c.nearest.ensures ∙ nearest_is c.args.m.now (option_map (λ e. place_of e.now) c.args.after) c.requires

@@ -1,8 +1,12 @@
 use Rattle.std.proofs.Common.{sym, subst}
 use Rattle.cat_frame.specs.Linked.{AreLinked}
+use Rattle.cat_holding.proofs.Changed.{sound_ready}
 use Rattle.cat_model.specs.Step.{forgotten}
 use Rattle.cat_events.proofs.Owned.{forget_owned, forget_reached}
 use Rattle.cat_events.proofs.change.forget_plan.Goals as goal
+
+pub claimed_by_entity-requires-clause-ready : goal.claimed_by_entity-requires-clause-ready
+claimed_by_entity-requires-clause-ready g c = sound_ready g.L.Layers.rules c.args.m.now c.requires.sound
 
 pub planned-requires-clause-reach : goal.planned-requires-clause-reach
 planned-requires-clause-reach g c =

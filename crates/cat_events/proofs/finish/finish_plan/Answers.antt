@@ -1,12 +1,22 @@
-use Rattle.std.proofs.Common.{sym, ap, subst, ◌∙◌}
+use Rattle.std.proofs.Common.{is_some, sym, ap, subst, ◌∙◌}
 use Rattle.std.specs.declared.option.Option.TheVariants.{Some}
 use Rattle.cat_frame.specs.Linked.{AreLinked}
 use Rattle.cat_frame.specs.declared.change.Own.{Own}
 use Rattle.cat_model.specs.declared.types.Order.{Order}
-use Rattle.cat_model.specs.Catalogue.{frame}
+use Rattle.cat_model.specs.Catalogue.{frame, held}
+use Rattle.cat_holding.proofs.Changed.{sound_ready}
 use Rattle.cat_model.specs.Step.{finished_state}
 use Rattle.cat_events.proofs.Owned.{result_owned}
 use Rattle.cat_events.proofs.finish.finish_plan.Goals as goal
+
+pub own_change-requires-clause-ready : goal.own_change-requires-clause-ready
+own_change-requires-clause-ready g c = sound_ready g.L.Layers.rules c.args.m.now c.requires.steady.sound
+
+pub own_change-requires-clause-held : goal.own_change-requires-clause-held
+own_change-requires-clause-held g c =
+    let m = c.args.m.now in
+    let same = c.in_ok-duplicate.ensures ∙ ap (λ (o : Order). o.reference) c.order.ensures in
+    ap (held m.holders) same ∙ sym (c.requires.steady.sound.records c.args.done.now.order.now.reference) ∙ ap is_some c.requires.there
 
 pub planned-requires-clause-reach : goal.planned-requires-clause-reach
 planned-requires-clause-reach g c =

@@ -4,7 +4,7 @@ use Rattle.std.specs.Option.{option_map}
 use Rattle.cat_table.specs.Table.{get}
 use Rattle.cat_model.specs.declared.types.Order.{Order}
 use Rattle.cat_model.specs.Step.Event.{Finish}
-use Rattle.cat_events.specs.Alone.{is_present_order}
+use Rattle.cat_events.specs.Again.{is_present_order}
 use Rattle.cat_events.proofs.Comes.{came_in}
 use Rattle.cat_events.proofs.finish.finish_present.Goals as goal
 

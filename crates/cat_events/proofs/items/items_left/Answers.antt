@@ -1,14 +1,13 @@
-use Rattle.std.proofs.Common.{ap, ◌∙◌}
-use Rattle.std.specs.List.{list_any}
-use Rattle.std.proofs.lemmas.Result.{IfOk-weaker}
-use Rattle.cat_table.specs.Table.{same_text}
-use Rattle.cat_events.proofs.Sets.{left_is}
+use Rattle.std.proofs.Common.{sym, ap, ◌∙◌, arith}
+use Rattle.std.proofs.lemmas.List.{at_drop_all}
+use Rattle.cat_table.specs.Table.{text_cmp}
+use Rattle.cat_types.specs.Amended.{without_all}
+use Rattle.cat_events.proofs.Left.{left_is}
 use Rattle.cat_events.proofs.items.items_left.Goals as goal
 
 pub returns : goal.returns
 returns c =
-    IfOk-weaker c.tabulated.result _ _
-    (λ t e. e
-    ∙ left_is c.args.refs.now c.as_slice-2.result.now c.args.items.now c.in_ok-removed.removed (c.as_slice-2.ensures ∙ c.in_ok-all.ensures)
-    (λ r. c.in_ok-removed.ensures r ∙ ap (list_any (same_text r)) c.as_slice.ensures))
-    c.tabulated.ensures
+    let refs = c.args.refs.now in
+    let l = c.loop-reference in
+    sym (at_drop_all (λ rs. without_all text_cmp rs l.rest) refs l.reference-index (omega arith))
+    ∙ (l.invariant ∙ (ap (without_all text_cmp refs) c.in_ok-rest.ensures ∙ left_is refs c.args.items.now c.in_order.ensures))

@@ -1,7 +1,7 @@
 use Rattle.std.proofs.Common.{ap, sym, ◌∙◌, is_some}
 use Rattle.std.specs.FinMap.Entries.{is_sorted}
 use Rattle.cat_table.specs.Table.{get, put, text_antisymmetric, text_cmp, text_total}
-use Rattle.cat_events.specs.Alone.{rerecorded_at}
+use Rattle.cat_events.specs.Again.{rerecorded_at}
 use Rattle.cat_events.proofs.Replaced.{exchanged, replaced_rises}
 use Rattle.cat_events.proofs.lease.release.Goals as goal
 

@@ -1,11 +1,29 @@
-use Rattle.std.proofs.Common.{sym, ap, subst, ◌∙◌}
-use Rattle.cat_table.specs.Table.{get}
+use Rattle.std.proofs.Common.{List, sym, ap, subst, ◌∙◌}
+use Rattle.cat_table.specs.Table.{Text, get}
+use Rattle.cat_claims.specs.Change.{IsChangedAmong}
+use Rattle.cat_holding.proofs.Changed.{sound_ready}
+use Rattle.cat_model.specs.declared.types.Origin.TheVariants.{Provider}
 use Rattle.cat_frame.specs.Linked.{AreLinked}
 use Rattle.cat_model.specs.declared.types.ProviderInputs.{ProviderInputs}
-use Rattle.cat_model.specs.Catalogue.{frame}
+use Rattle.cat_model.specs.Catalogue.{Offers, frame}
 use Rattle.cat_model.specs.Step.{items_after, mutated_state, source_at}
+use Rattle.cat_events.specs.OwnChanges.{given_or_removed}
+use Rattle.cat_events.proofs.Changing.{given_among}
 use Rattle.cat_events.proofs.Owned.{mutation_how, mutation_owned, mutation_reached}
 use Rattle.cat_events.proofs.mutation.mutation_plan.Goals as goal
+
+pub own_change-requires-clause-ready : goal.own_change-requires-clause-ready
+own_change-requires-clause-ready g c = sound_ready g.L.Layers.rules c.args.m.now c.requires.sound
+
+pub own_change-requires-clause-changed : goal.own_change-requires-clause-changed
+own_change-requires-clause-changed g c =
+    let m = c.args.m.now in
+    let p = c.args.p.now in
+    let x = c.args.x.now in
+    let made = c.in_ok-items.ensures ∙ ap (λ (s : ProviderInputs). items_after x s.items) c.in_ok-source.ensures in
+    let changed = c.as_slice.ensures ∙ c.in_ok-changed.ensures ∙ ap (λ (s : ProviderInputs). given_or_removed x s.items) c.in_ok-source.ensures in
+    subst (λ (items : Offers). IsChangedAmong (Provider p) (get items) c.as_slice.result.now m.rows) (sym made)
+    (subst (λ (l : List Text). IsChangedAmong (Provider p) (get (items_after x (source_at (get m.providers p)).items)) l m.rows) (sym changed) (given_among m p x c.requires.sound.offers))
 
 pub planned-requires-clause-reach : goal.planned-requires-clause-reach
 planned-requires-clause-reach g c =

@@ -1,11 +1,11 @@
-use Rattle.std.proofs.Common.{◌≡◌, ◌++◌, List, ap, subst, ◌∙◌}
+use Rattle.std.proofs.Common.{◌++◌, List, ap, subst, ◌∙◌}
 use Rattle.std.specs.declared.option.Option.TheVariants.{None, Some}
-use Rattle.cat_table.specs.Table.{Map, Text, get, keys, put, text_cmp}
+use Rattle.cat_table.specs.Table.{Map, Text, get}
 use Rattle.cat_model.specs.declared.types.Leaving.TheVariants.{Deleted}
 use Rattle.cat_model.specs.declared.types.Origin.TheVariants.{Provider}
 use Rattle.cat_model.specs.declared.types.ProviderInputs.{ProviderInputs}
 use Rattle.cat_model.specs.Step.{replaced}
-use Rattle.cat_events.specs.Claimed.{IsClaimed}
+use Rattle.cat_claims.specs.Claimed.{IsClaimed}
 use Rattle.cat_events.specs.declared.plan.Inputs.TheVariants.{Providers}
 use Rattle.cat_events.specs.declared.plan.OwnChange.{OwnChange}
 use Rattle.cat_events.proofs.mutation.own_change.Goals as goal

@@ -1,4 +1,4 @@
-use Rattle.std.proofs.Common.{◌≡◌, take, min, ◌+◌, ◌^◌}
+use Rattle.std.proofs.Common.{◌≡◌, take, min, ◌^◌}
 use Rattle.std.specs.List.{sum_by}
 use Rattle.cat_layers.specs.Bytes.{provider_bytes}
 use Rattle.cat_layers.proofs.bytes.of_providers.Given as goal

@@ -9,7 +9,8 @@ use Rattle.cat_replies.proofs.conflicts.waiting.Given as goal
 abbrev pub invariant-loop-place : goal.invariant-loop-place
 invariant-loop-place l =
     (l.place ≤ length l.rows)
-    × (map seen.waiting l.found ≡ tabulate place_cmp (map (λ e. (e.1.reference, e.0)) (drop l.place l.rows)) (λ k. waits l.state k.1 (row_at l.state.rows k.1)))
+    × (map seen.waiting l.found
+    ≡ tabulate place_cmp (map (λ e. (e.1.reference, e.0)) (drop l.place (map (λ e. e.now) l.rows))) (λ k. waits l.state k.1 (row_at l.state.rows k.1)))
 
 abbrev pub decreases-loop-place : goal.decreases-loop-place
 decreases-loop-place l = l.place

@@ -1,6 +1,11 @@
-use Rattle.std.proofs.Common.{◌≡◌, drop}
+use Rattle.std.proofs.Common.{◌≡◌}
+use Rattle.cat_table.specs.Left.{items_left}
 use Rattle.cat_sound.specs.Indexed.{with_rows}
 use Rattle.cat_sound.proofs.offers.index_of.Given as goal
 
+-- with the rows that are left, the index is that of all
 abbrev pub invariant-loop-arrival : goal.invariant-loop-arrival
-invariant-loop-arrival l = with_rows (drop l.arrival-index l.arrival-items) l.index ≡ with_rows l.arrival-items l.initial.index
+invariant-loop-arrival l =
+    goal.iterator-loop-arrival.can_next l.arrival-iterator
+    × goal.iterator-loop-arrival.is_finite l.arrival-iterator
+    × (with_rows (items_left l.arrival-iterator) l.index ≡ with_rows l.rows l.initial.index)

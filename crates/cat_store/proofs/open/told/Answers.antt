@@ -1,6 +1,8 @@
 use Rattle.cat_events.specs.Coming.{IsSteady}
+use Rattle.std.proofs.Common.{◌≡◌}
 use Rattle.cat_model.specs.Sound.{AreBegun}
-use Rattle.cat_store.proofs.Opening.{kept_again, kept_first, kept_told, still_holds}
+use Rattle.cat_model.specs.Step.{reopened}
+use Rattle.cat_store.proofs.Opening.{kept_again, kept_first, kept_told, opens_told, still_holds}
 use Rattle.cat_store.proofs.open.told.Goals as goal
 
 pub returns-clause-steady : goal.returns-clause-steady
@@ -18,3 +20,9 @@ returns-clause-tells_first g c = kept_first g.L.Layers.rules c.in_ok-found.found
 pub returns-clause-again : goal.returns-clause-again
 returns-clause-again g c =
     kept_again g.L.Layers.rules c.in_ok-found.found c.telling.result c.telling.ensures.same c.telling.ensures.tells c.in_ok-found.ensures.steady c.args.candidate c.in_ok-found.ensures.state
+
+pub returns-clause-state : goal.returns-clause-state
+returns-clause-state g c = still_holds (λ x. x.state ≡ reopened g.L.Layers.rules c.args.candidate) c.in_ok-found.found c.telling.result c.telling.ensures.same c.in_ok-found.ensures.state
+
+pub returns-clause-opens : goal.returns-clause-opens
+returns-clause-opens g c = opens_told g.L.Layers.rules c.args.candidate c.in_ok-found.found c.telling.result c.in_ok-found.ensures.exact c.in_ok-found.ensures.state c.telling.ensures.opens

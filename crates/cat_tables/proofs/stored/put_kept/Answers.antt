@@ -14,17 +14,17 @@ returns c =
     let m3 = c.put_shelf.new.made in
     let m4 = c.put_records.new.made in
     let m5 = c.put_orphans.new.made in
-    let arrivals : c.in_ok-arrivals.arrivals ≡ emitted m.rows = c.in_ok-arrivals.ensures ∙ ap emitted c.as_slice-4.ensures in
+    let arrivals : c.in_ok-arrivals.arrivals ≡ emitted m.rows = c.in_ok-arrivals.ensures in
     let e1 : m1 ≡ put_rows (map provider_row m.providers) c.args.made.now =
     c.in_ok-put_providers.ensures ∙ ap (λ l. put_rows (map provider_row l) c.args.made.now) c.as_slice.ensures in
     let e2 : m2 ≡ put_rows (flat_map given m.rows) m1 =
-    c.in_ok-put_all_given.ensures ∙ ap (λ l. put_rows (flat_map given l) m1) c.as_slice-2.ensures in
+    c.in_ok-put_all_given.ensures in
     let e3 : m3 ≡ put_rows (map shelf_row m.shelf) m2 =
-    c.in_ok-put_shelf.ensures ∙ ap (λ l. put_rows (map shelf_row l) m2) c.as_slice-3.ensures in
+    c.in_ok-put_shelf.ensures ∙ ap (λ l. put_rows (map shelf_row l) m2) c.as_slice-2.ensures in
     let e4 : m4 ≡ put_rows (map (record_in c.args.version m.holders (emitted m.rows)) m.records) m3 =
-    c.in_ok-put_records.ensures ∙ (λ i. put_rows (map (record_in c.args.version m.holders (arrivals i)) (c.as_slice-5.ensures i)) m3) in
+    c.in_ok-put_records.ensures ∙ (λ i. put_rows (map (record_in c.args.version m.holders (arrivals i)) (c.as_slice-3.ensures i)) m3) in
     on_ok_weaker c.put_orphans.result
     (λ e. put_five (map provider_row m.providers) (flat_map given m.rows) (map shelf_row m.shelf)
     (map (record_in c.args.version m.holders (emitted m.rows)) m.records) (map orphan_row m.orphans) c.args.made.now m1 m2 m3 m4 m5
-    e1 e2 e3 e4 (e ∙ ap (λ l. put_rows (map orphan_row l) m4) c.as_slice-6.ensures))
+    e1 e2 e3 e4 (e ∙ ap (λ l. put_rows (map orphan_row l) m4) c.as_slice-4.ensures))
     c.put_orphans.ensures

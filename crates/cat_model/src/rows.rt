@@ -1,0 +1,292 @@
+//! Rows of offers that are found by arrival, by the entity that gave them and by their reference.
+ghost use Rattle.std.specs.Prelude.{◌≡◌, [], IfOk, IsTrue, None, if◌then◌else◌, is_ok, length, option_map};
+ghost use Rattle.std.specs.FinMap.Entries.{is_sorted};
+ghost use Rattle.std.specs.Ordering.{nat_cmp};
+ghost use Rattle.std.specs.Option.{unwrap_or};
+ghost use Rattle.cat_table.specs.Left.{items_left};
+ghost use Rattle.cat_table.specs.Places.{first_from, from};
+ghost use Rattle.cat_table.specs.Rows.{without};
+ghost use Rattle.cat_table.specs.Table.{find, keys, put, text_cmp};
+ghost use Rattle.cat_model.specs.declared.types.Origin.TheVariants.{Entity};
+ghost use Rattle.cat_model.specs.Rows.{GivenRises, GivenRisesLess, IsRowAt, Rises, RisesLess, given, named, row_at, set_with, set_without, with_arrival, with_given, with_set, without_arrival, without_given};
+
+use crate::types::{Origin, Row};
+use cat_ref::reference::Ref;
+use cat_table::listing::{Copied, Listing};
+use cat_table::map::Map;
+use cat_table::tree::Items;
+use std::alloc::{AllocError, Global};
+use std::marker::Model;
+
+// Sets of arrivals by key.
+type Index = Map<Ref, Map<u64, ()>>;
+
+/// Rows by arrival, and their arrivals by entity and by reference. Contracts see the rows, in order of arrival. A copy shares
+/// the rows with what it was made of, and takes no memory.
+#[derive(Drop)]
+pub struct IndexedRows {
+    rows: Map<u64, Row>,
+    by_entity: Index,
+    by_reference: Index,
+}
+
+impl Model for IndexedRows {
+    ghost use Rattle.cat_model.specs.Rows.{IsIndexed, Rows};
+    ghost use Rattle.cat_model.specs.contracts.types.Row.{the_row};
+    ghost use Rattle.std.specs.Coded.{coded_list, coded×, coded_ℕ};
+
+    ghost Value = { Rows };
+
+    ghost coded = { coded_list (coded× coded_ℕ the_row.coded) };
+
+    ghost view = { λ a. a.rows };
+
+    ghost invariant = { λ a. IsIndexed a.rows a.by_entity a.by_reference };
+}
+
+// The set of a key, if there is one.
+fn set_of(index: &Index, key: &Ref) -> Result<Map<u64, ()>, AllocError>
+    ensures { IfOk result (λ s. s ≡ unwrap_or (find text_cmp key.now index.now) []) }
+{
+    match index.get(key) {
+        Some(set) => set.share(),
+        None => Ok(Map::new()),
+    }
+}
+
+// The set of a key, with one arrival more.
+fn set_with(
+    alloc: Global,
+    index: &Index,
+    key: &Ref,
+    arrival: u64,
+) -> Result<Map<u64, ()>, AllocError>
+    ensures set { IfOk result (λ s. s ≡ set_with key.now arrival index.now) }
+    ensures order { IfOk result (λ s. Rises key.now arrival index.now) }
+{
+    let mut set = set_of(index, key)?;
+    set.put(alloc, arrival, ())?;
+    set.in_order();
+    Ok(set)
+}
+
+// An index, with one arrival more under a key.
+fn with_arrival(alloc: Global, index: &Index, key: &Ref, arrival: u64) -> Result<Index, AllocError>
+    ensures index { IfOk result (λ x. x ≡ with_arrival key.now arrival index.now) }
+    ensures order { IfOk result (λ x. Rises key.now arrival index.now) }
+{
+    let set = set_with(alloc, index, key, arrival)?;
+    let mut next = index.share()?;
+    next.put(alloc, key.duplicate(alloc)?, set)?;
+    Ok(next)
+}
+
+fn with_given(
+    alloc: Global,
+    index: &Index,
+    origin: &Origin,
+    arrival: u64,
+) -> Result<Index, AllocError>
+    ensures index { IfOk result (λ x. x ≡ with_given origin.now arrival index.now) }
+    ensures order { IfOk result (λ x. GivenRises origin.now arrival index.now) }
+{
+    match origin {
+        Origin::Provider(_) => index.share(),
+        Origin::Entity(e) => with_arrival(alloc, index, e, arrival),
+    }
+}
+
+// The set of a key, with one arrival less.
+fn set_without(
+    alloc: Global,
+    index: &Index,
+    key: &Ref,
+    arrival: u64,
+) -> Result<Map<u64, ()>, AllocError>
+    ensures set { IfOk result (λ s. s ≡ set_without key.now arrival index.now) }
+    ensures order { IfOk result (λ s. RisesLess key.now arrival index.now) }
+{
+    let mut set = set_of(index, key)?;
+    set.remove(alloc, &arrival)?;
+    set.in_order();
+    Ok(set)
+}
+
+// An index with this set under a key; where it is empty, with none.
+fn with_set(alloc: Global, index: &Index, key: &Ref, set: Map<u64, ()>) -> Result<Index, AllocError>
+    ensures { IfOk result (λ x. x ≡ with_set key.now set index.now) }
+{
+    let mut next = index.share()?;
+    if set.is_empty() {
+        next.remove(alloc, key)?;
+        return Ok(next);
+    }
+    next.put(alloc, key.duplicate(alloc)?, set)?;
+    Ok(next)
+}
+
+// An index, with one arrival less under a key.
+fn without_arrival(
+    alloc: Global,
+    index: &Index,
+    key: &Ref,
+    arrival: u64,
+) -> Result<Index, AllocError>
+    ensures index { IfOk result (λ x. x ≡ without_arrival key.now arrival index.now) }
+    ensures order { IfOk result (λ x. RisesLess key.now arrival index.now) }
+{
+    let set = set_without(alloc, index, key, arrival)?;
+    with_set(alloc, index, key, set)
+}
+
+fn without_given(
+    alloc: Global,
+    index: &Index,
+    origin: &Origin,
+    arrival: u64,
+) -> Result<Index, AllocError>
+    ensures index { IfOk result (λ x. x ≡ without_given origin.now arrival index.now) }
+    ensures order { IfOk result (λ x. GivenRisesLess origin.now arrival index.now) }
+{
+    match origin {
+        Origin::Provider(_) => index.share(),
+        Origin::Entity(e) => without_arrival(alloc, index, e, arrival),
+    }
+}
+
+impl Copied for IndexedRows {
+    fn duplicate(&self, _alloc: Global) -> Result<IndexedRows, AllocError> {
+        self.share()
+    }
+}
+
+impl IndexedRows {
+    /// No rows. Takes no memory.
+    pub fn new() -> IndexedRows
+        ensures { result ≡ [] }
+    {
+        IndexedRows {
+            rows: Map::new(),
+            by_entity: Map::new(),
+            by_reference: Map::new(),
+        }
+    }
+
+    /// A copy that shares the rows. Takes no memory.
+    pub fn share(&self) -> Result<IndexedRows, AllocError>
+        ensures { IfOk result (λ x. x ≡ self.now) }
+    {
+        Ok(IndexedRows {
+            rows: self.rows.share()?,
+            by_entity: self.by_entity.share()?,
+            by_reference: self.by_reference.share()?,
+        })
+    }
+
+    #[tactic(auto, using(crate::proofs::Indexed::put_indexed))]
+    /// Puts a new row. Where memory is wanted, all is as before.
+    pub fn put(&mut self, alloc: Global, arrival: u64, row: Row) -> Result<(), AllocError>
+        requires { row_at self.now arrival ≡ None }
+        ensures { self.new ≡ (if is_ok result then put nat_cmp arrival row self.old else self.old) }
+    {
+        self.rows.in_order();
+        let by_entity = with_given(alloc, &self.by_entity, &row.origin, arrival)?;
+        let by_reference = with_arrival(alloc, &self.by_reference, &row.reference, arrival)?;
+        self.rows.put(alloc, arrival, row)?;
+        self.by_entity = by_entity;
+        self.by_reference = by_reference;
+        Ok(())
+    }
+
+    /// Puts a row in place of one of the same origin and reference. Where memory is wanted, all is as before.
+    pub fn replace(&mut self, alloc: Global, arrival: u64, row: Row) -> Result<(), AllocError>
+        requires { IsRowAt self.now arrival row.origin row.reference }
+        ensures { self.new ≡ (if is_ok result then put nat_cmp arrival row self.old else self.old) }
+    {
+        self.rows.in_order();
+        self.rows.put(alloc, arrival, row)
+    }
+
+    #[tactic(auto, using(crate::proofs::Indexed::less_indexed))]
+    /// Removes a row. Where memory is wanted, all is as before.
+    pub fn remove(
+        &mut self,
+        alloc: Global,
+        arrival: u64,
+        origin: &Origin,
+        reference: &Ref,
+    ) -> Result<(), AllocError>
+        requires { IsRowAt self.now arrival origin.now reference.now }
+        ensures { self.new ≡ (if is_ok result then without nat_cmp arrival self.old else self.old) }
+    {
+        self.rows.in_order();
+        let by_entity = without_given(alloc, &self.by_entity, origin, arrival)?;
+        let by_reference = without_arrival(alloc, &self.by_reference, reference, arrival)?;
+        self.rows.remove(alloc, &arrival)?;
+        self.by_entity = by_entity;
+        self.by_reference = by_reference;
+        Ok(())
+    }
+
+    /// How many rows there are.
+    pub fn len(&self) -> usize
+        ensures { result ≡ length self.now }
+    {
+        self.rows.len()
+    }
+
+    /// Arrivals rise. Does nothing; its callers learn it.
+    pub fn in_order(&self)
+        ensures { IsTrue (is_sorted nat_cmp self.now) }
+    {
+        self.rows.in_order();
+    }
+
+    /// The row with this arrival.
+    pub fn get(&self, arrival: &u64) -> Option<&Row>
+        ensures { option_map (λ x. x.now) result ≡ row_at self.now arrival.now }
+    {
+        self.rows.get(arrival)
+    }
+
+    /// Lends the rows in order of arrival.
+    pub fn iter(&self) -> Items<'_, (u64, Row)>
+        ensures { items_left result ≡ self.now }
+    {
+        self.rows.iter()
+    }
+
+    /// The first row whose arrival is this one or a greater one.
+    pub fn first_from(&self, arrival: &u64) -> Option<&(u64, Row)>
+        ensures { option_map (λ e. e.now) result ≡ first_from nat_cmp arrival.now self.now }
+    {
+        self.rows.first_from(arrival)
+    }
+
+    /// Lends the rows from this arrival on, in order of arrival.
+    pub fn iter_from(&self, arrival: &u64) -> Items<'_, (u64, Row)>
+        ensures { items_left result ≡ from nat_cmp arrival.now self.now }
+    {
+        self.rows.iter_from(arrival)
+    }
+
+    /// The arrivals of the rows that an entity gave, in order.
+    pub fn given(&self, alloc: Global, entity: &Ref) -> Result<Listing<u64>, AllocError>
+        ensures { IfOk result (λ l. l ≡ given self.now (Entity entity.now)) }
+    {
+        match self.by_entity.get(entity) {
+            Some(arrivals) => arrivals.keys(alloc),
+            None => Ok(Listing::new(alloc)),
+        }
+    }
+
+    /// The arrivals of the rows of a reference, in order.
+    pub fn named(&self, alloc: Global, reference: &Ref) -> Result<Listing<u64>, AllocError>
+        ensures { IfOk result (λ l. l ≡ named self.now reference.now) }
+    {
+        match self.by_reference.get(reference) {
+            Some(arrivals) => arrivals.keys(alloc),
+            None => Ok(Listing::new(alloc)),
+        }
+    }
+}
