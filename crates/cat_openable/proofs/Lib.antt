@@ -4,3 +4,9 @@ pub mod Sums
 pub mod Within
 pub mod Narrow
 pub mod Opens
+pub mod Lasts
+pub mod Runs
+pub mod Requests
+pub mod Serving
+pub mod Lasting
+pub mod Left

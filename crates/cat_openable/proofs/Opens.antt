@@ -44,36 +44,39 @@ entity t r h = record {
   references = h.references;
 }
 
-module _ (s : Settings) where
-  -- what each event keeps: counters are begun, no kept output offers a reference twice, and the inputs are within the limit
-  pub record Stands (m : State) : Type 0 where
-    pub begun : AreBegun m
-    pub once : AreAll IsOnce m.records
-    pub inputs : IsWithin layered s.input_limit m
+-- what each event keeps: counters are begun, no kept output offers a reference twice, and the inputs are within the limit
+pub record Stands (limit : ℕ) (m : State) : Type 0 where
+  pub begun : AreBegun m
+  pub once : AreAll IsOnce m.records
+  pub inputs : IsWithin layered limit m
 
-  step_stands : (e : Event) (m : State) → Stands m → Stands (step layered s e m)
+module _ (s : Settings) where
+  abbrev StandsHere : State → Type 0
+  StandsHere = Stands s.input_limit
+
+  pub step_stands : (e : Event) (m : State) → StandsHere m → StandsHere (step layered s e m)
   step_stands e m h = record {
     begun = step_begun layered s e m h.begun;
     once = step_are IsOnce layered s result_once e m h.once;
     inputs = step_stays layered s left_bytes e m h.inputs;
   }
 
-  run_stands : (es : List Event) (m : State) → Stands m → Stands (run layered s es m)
+  run_stands : (es : List Event) (m : State) → StandsHere m → StandsHere (run layered s es m)
   run_stands [] m h = h
   run_stands (e ∷ es) m h = run_stands es (step layered s e m) (step_stands e m h)
 
-  settle_stands : (now : ℕ) (limit : Option ℕ) (m : State) → Stands m → Stands (try_settle layered s now limit m).state
-  settle_stands now limit m h = let runs = settle_runs layered s now limit m in subst Stands (sym runs.1) (run_stands runs.0 m h)
+  pub settle_stands : (now : ℕ) (limit : Option ℕ) (m : State) → StandsHere m → StandsHere (try_settle layered s now limit m).state
+  settle_stands now limit m h = let runs = settle_runs layered s now limit m in subst StandsHere (sym runs.1) (run_stands runs.0 m h)
 
-  start_stands : Stands session_start.state
+  pub start_stands : StandsHere session_start.state
   start_stands = record { begun = start_begun; once = none_are IsOnce; inputs = record { within = omega arith; in_order = tt } }
 
-  pub lines_stand : (lines : List (List ℕ)) (words : List Word) → Stands (after_lines (session_after layered s) session_start lines words).state
-  lines_stand lines words = lines_kept layered s Stands step_stands settle_stands session_start lines words start_stands
+  pub lines_stand : (lines : List (List ℕ)) (words : List Word) → StandsHere (after_lines (session_after layered s) session_start lines words).state
+  lines_stand lines words = lines_kept layered s StandsHere step_stands settle_stands session_start lines words start_stands
 
   -- ---- what is kept may open
 
-  module _ (m : State) (sound : Sound layered m) (small : AreSmall m) (formed : Formed real_forms m) (k : Stands m) where
+  module _ (m : State) (sound : Sound layered m) (small : AreSmall m) (formed : Formed real_forms m) (k : StandsHere m) where
     told : IsTold m
     told = record {
       offers = sound.offers;

@@ -3,13 +3,14 @@ use Rattle.std.proofs.Common.{◌≡◌, ℕ, ◌+◌, Bool, true, false, cond, 
 use Rattle.std.specs.declared.option.Option.{Option}
 use Rattle.std.specs.declared.option.Option.TheVariants.{None, Some}
 use Rattle.std.specs.List.{list_any}
-use Rattle.cat_table.specs.Table.{Map, same_text, text_cmp, get, keys, put, place}
-use Rattle.cat_table.proofs.Tables.{text_total, text_antisymmetric, same_is, find-put_same, find-put_other, find-tabulate}
+use Rattle.std.specs.Option.{option_and_then}
+use Rattle.cat_table.specs.Table.{Map, same_text, text_cmp, get, keys, over, put, place}
+use Rattle.cat_table.proofs.Tables.{text_total, text_antisymmetric, same_is, find-put_same, find-put_other, find-over, find-tabulate}
 use Rattle.cat_types.specs.declared.work.Output.{Output}
 use Rattle.cat_types.specs.declared.work.Outcome.{Outcome}
 use Rattle.cat_types.specs.declared.work.Outcome.TheVariants.{Good, Bad}
 use Rattle.cat_types.specs.declared.work.Work.{Work}
-use Rattle.cat_model.specs.Catalogue.{Ref, Issues, Rules, work, same_option, frame, reheld, record_after, fresh_refs}
+use Rattle.cat_model.specs.Catalogue.{Ref, Issues, Rules, work, same_option, due_now, frame, reheld, record_after, fresh_refs}
 use Rattle.cat_model.specs.Step.{source_at, leased, without_key, forgotten, finished_record, finished_state, leaving, is_present, finish, mutated_state, refresh, take, take_next, next_taken, forget, forget_at, ref_at, is_present_stitch, Event, change, refusal, step}
 use Rattle.cat_model.specs.Step.Event.{Mutate, ShelfPut, ShelfDrop, Refresh, Forget, ForgetNumber, Take, TakeAt, Finish, PutStitch}
 use Rattle.cat_model.specs.declared.types.Leaving.{Leaving}
@@ -112,3 +113,11 @@ module _ (Q : Output → Type 0) where
 
   pub none_are : AreAll []
   none_are r x output e o = absurd (none_some e)
+
+  -- records that are made due keep their outputs
+  pub due_are : (records : Map Record) → AreAll records → AreAll (over text_cmp records (λ r x. Some (due_now x)))
+  due_are records h r x output e o = go (get records r) refl (sym (find-over text_total text_antisymmetric r records (λ r x. Some (due_now x))) ∙ e)
+    where
+      go : (v : Option Record) → get records r ≡ v → option_and_then (λ x. Some (due_now x)) v ≡ Some x → Q output
+      go None is e = absurd (none_some e)
+      go (Some y) is e = h r y output is (ap (λ v. (unwrap_or v x).output) e ∙ o)

@@ -14,7 +14,9 @@ use Rattle.cat_kept_wire.specs.Wire.{KeptWired, kept_wire_after, kept_wire_reply
 use Rattle.cat_layers.specs.Layered.{layered}
 use Rattle.cat_model.specs.Sound.{Sound}
 use Rattle.cat_model.specs.declared.types.OrphanRule.{OrphanRule}
+use Rattle.cat_model.specs.declared.types.OrphanRule.TheVariants.{Keep}
 use Rattle.cat_model.specs.declared.types.State.{State}
+use Rattle.cat_reopened.specs.Right.{AreOfNone}
 use Rattle.cat_reopened.specs.Told.{OpensAs}
 use Rattle.cat_store.specs.Opened.{HasRule, IsRead}
 use Rattle.cat_table.specs.Table.{Text}
@@ -85,3 +87,8 @@ abbrev pub IsRefused : Option (List ℕ) → Option (List ℕ) → ℕ → ℕ �
 IsRefused written written' faults faults' =
     (table : Table) × (key : Text) × (Appends written written' (refused_store table key)
     ⊎ (AppendsFront written written' (refused_store table key) × Rose faults faults'))
+
+-- The rows that a keeper told, if it told any, are those of no state that opens: of none that is sound, in its bounds and forms, and within the program's
+-- limit, in either version.
+abbrev pub IsUnopenable : Option Rows → Type 0
+IsUnopenable told = IfSome told (λ rows. AreOfNone layered (program_settings Keep).input_limit rows)

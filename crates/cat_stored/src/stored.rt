@@ -1,17 +1,20 @@
 //! A session, and a connection, over a store.
 
-ghost use Rattle.std.specs.Prelude.{◌≡◌, ◌≢◌, ◌≤◌, ◌⊎◌, IfOk};
+ghost use Rattle.std.specs.Prelude.{◌≡◌, ◌≢◌, ◌≤◌, ◌⊎◌, IfOk, IfSome, Option};
 ghost use Rattle.std.specs.Io.KnownBytes.{Appends};
 ghost use Rattle.cat_events.specs.Coming.{IsSteady};
 ghost use Rattle.cat_feed.specs.Feed.{begun};
 ghost use Rattle.cat_io.specs.Causes.{Rose};
 ghost use Rattle.cat_io.specs.Sink.{AppendsFront};
 ghost use Rattle.cat_keeper.specs.Answers.{Are, Stays};
+ghost use Rattle.cat_keeper.specs.Store.{Rows};
 ghost use Rattle.cat_layers.specs.Layered.{layered};
 ghost use Rattle.cat_model.specs.Sound.{AreBegun};
+ghost use Rattle.cat_model.specs.declared.types.OrphanRule.TheVariants.{Keep};
+ghost use Rattle.cat_store.specs.Refused.{IsRefused as MayRefuse};
 ghost use Rattle.cat_tables.specs.Stored.{stored, texts_of};
 ghost use Rattle.cat_transcript.specs.Program.{program_settings};
-ghost use Rattle.cat_stored.specs.Stores.{HasKept, HasKeptWire, IsRefused, refused_store, session_over};
+ghost use Rattle.cat_stored.specs.Stores.{HasKept, HasKeptWire, IsRefused, IsUnopenable, refused_store, session_over};
 
 use cat_api::service::Service;
 use cat_core::catalogue::Catalogue;
@@ -111,6 +114,7 @@ fn service_of<'a, K: Keeper>(alloc: Global, opened: Opened<K>) -> KeptService<'a
 /// memory. Nothing else is written.
 pub fn unopened<O: Sink>(alloc: Global, fault: &OpenFault, sink: &mut O) -> Status
     ensures refused { result.0 ≡ 6 → IsRefused (O.written sink.old) (O.written sink.new) (O.faults sink.old) (O.faults sink.new) }
+    ensures unopenable { result.0 ≡ 6 → (told : Option Rows) → IfSome told (λ rows. MayRefuse layered (program_settings Keep).input_limit rows fault.now) → IsUnopenable told }
     ensures keeper { result.0 ≡ 5 → fault.now ≡ OpenFault.Keeper }
     ensures unwritten { result.0 ≢ 6 → sink.new ≡ sink.old }
     ensures later { O.faults sink.old ≤ O.faults sink.new }
@@ -125,7 +129,7 @@ pub fn unopened<O: Sink>(alloc: Global, fault: &OpenFault, sink: &mut O) -> Stat
 
 /// Answers the lines of the source over the catalogue that the keeper has at a place, under this rule for orphans, or
 /// else under the stored one. The status is 5 where the keeper failed as the store was opened, and 6 where a row of the store has no reading
-/// or breaks a rule; the line `refused store TABLE KEY` names it.
+/// or breaks a rule; the line `refused store TABLE KEY` names it. It comes only where the rows are those of no state that opens.
 pub fn run_stored<S: Source, O: Sink, K: Keeper>(
     alloc: Global,
     orphans: Option<OrphanRule>,
@@ -134,13 +138,14 @@ pub fn run_stored<S: Source, O: Sink, K: Keeper>(
     source: &mut S,
     sink: &mut O,
 ) -> Ran<K>
-    ensures kept { (result.status.0 ≡ 5) ⊎ ((result.status.0 ≡ 6) ⊎ ((result.status.0 ≡ 9)
+    ensures kept { (result.status.0 ≡ 5) ⊎ ((result.status.0 ≡ 6) ⊎ (((result.status.0 ≡ 9) × Stays (K.tables place keeper) (K.tables place result.keeper))
         ⊎ HasKept place orphans (K.tables place keeper) result.status.0 (S.left source.old) (S.left source.new)
         (O.written sink.old) (O.written sink.new) (λ place. K.tables place result.keeper) (K.faults result.keeper))) }
     ensures unread { (result.status.0 ≡ 5) ⊎ (result.status.0 ≡ 6) → source.new ≡ source.old }
     ensures same { (result.status.0 ≡ 5) ⊎ (result.status.0 ≡ 6) → Stays (K.tables place keeper) (K.tables place result.keeper) }
     ensures keeper_fault { result.status.0 ≡ 5 → Rose (K.faults keeper) (K.faults result.keeper) }
     ensures refused { result.status.0 ≡ 6 → IsRefused (O.written sink.old) (O.written sink.new) (O.faults sink.old) (O.faults sink.new) }
+    ensures unopenable { result.status.0 ≡ 6 → IsUnopenable (K.tables place keeper) }
     ensures read_fault { result.status.0 ≡ 3 → Rose (S.faults source.old) (S.faults source.new) }
     ensures write_fault { result.status.0 ≡ 4 → Rose (O.faults sink.old) (O.faults sink.new) }
     ensures memory { result.status.0 ≡ 9 → (source.new ≡ source.old) × (sink.new ≡ sink.old) }
@@ -171,13 +176,14 @@ pub fn run_stored_connection<S: Source, O: Sink, K: Keeper>(
     source: &mut S,
     sink: &mut O,
 ) -> Ran<K>
-    ensures kept { (result.status.0 ≡ 5) ⊎ ((result.status.0 ≡ 6) ⊎ ((result.status.0 ≡ 9)
+    ensures kept { (result.status.0 ≡ 5) ⊎ ((result.status.0 ≡ 6) ⊎ (((result.status.0 ≡ 9) × Stays (K.tables place keeper) (K.tables place result.keeper))
         ⊎ HasKeptWire place orphans (K.tables place keeper) result.status.0 (S.left source.old) (S.left source.new)
         (O.written sink.old) (O.written sink.new) (λ place. K.tables place result.keeper) (K.faults result.keeper))) }
     ensures unread { (result.status.0 ≡ 5) ⊎ (result.status.0 ≡ 6) → source.new ≡ source.old }
     ensures same { (result.status.0 ≡ 5) ⊎ (result.status.0 ≡ 6) → Stays (K.tables place keeper) (K.tables place result.keeper) }
     ensures keeper_fault { result.status.0 ≡ 5 → Rose (K.faults keeper) (K.faults result.keeper) }
     ensures refused { result.status.0 ≡ 6 → IsRefused (O.written sink.old) (O.written sink.new) (O.faults sink.old) (O.faults sink.new) }
+    ensures unopenable { result.status.0 ≡ 6 → IsUnopenable (K.tables place keeper) }
     ensures read_fault { result.status.0 ≡ 3 → Rose (S.faults source.old) (S.faults source.new) }
     ensures write_fault { result.status.0 ≡ 4 → Rose (O.faults sink.old) (O.faults sink.new) }
     ensures memory { result.status.0 ≡ 9 → (source.new ≡ source.old) × (sink.new ≡ sink.old) }

@@ -9,7 +9,7 @@ ghost use Rattle.cat_keeper.specs.Answers.{Are, Stays};
 ghost use Rattle.cat_layers.specs.Layered.{layered};
 ghost use Rattle.cat_model.specs.Sound.{AreBegun, Sound};
 ghost use Rattle.cat_model.specs.Step.{start};
-ghost use Rattle.cat_stored.specs.Stores.{IsRefused};
+ghost use Rattle.cat_stored.specs.Stores.{IsRefused, IsUnopenable};
 ghost use Rattle.cat_tables.specs.Stored.{stored, texts_of};
 ghost use Rattle.cat_tool.specs.Ended.{faults_left, tables_left};
 ghost use Rattle.cat_tool.specs.Words.{place_of};
@@ -197,6 +197,7 @@ pub(crate) fn run_stored_serve<
     ensures same { (result.status.0 ≡ 5) ⊎ (result.status.0 ≡ 6) → Stays (K.tables (place_of (map string_bytes words.now)) keeper) (tables_left (K.tables (place_of (map string_bytes words.now))) result.keeper) }
     ensures keeper_fault { result.status.0 ≡ 5 → Rose (K.faults keeper) (faults_left K.faults result.keeper) }
     ensures refused { result.status.0 ≡ 6 → IsRefused (O.written sink.old) (O.written sink.new) (O.faults sink.old) (O.faults sink.new) }
+    ensures unopenable { result.status.0 ≡ 6 → IsUnopenable (K.tables (place_of (map string_bytes words.now)) keeper) }
     ensures unwritten { result.status.0 ≢ 6 → sink.new ≡ sink.old }
     ensures write_later { O.faults sink.old ≤ O.faults sink.new }
     ensures ended { (result.status.0 ≡ 0) ⊎ ((result.status.0 ≡ 5) ⊎ ((result.status.0 ≡ 6) ⊎ ((result.status.0 ≡ 7) ⊎ (result.status.0 ≡ 9)))) }

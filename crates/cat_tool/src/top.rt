@@ -28,7 +28,7 @@ ghost use Rattle.cat_tool.specs.Ended.{faults_left, tables_left};
 ghost use Rattle.cat_tool.specs.Mirrors.{HasMirrored, MirrorsSome};
 ghost use Rattle.cat_tool.specs.Sessions.{reply_next, session_at, session_next};
 ghost use Rattle.cat_ends.specs.Status.{HasRun, HasServed, HasTold};
-ghost use Rattle.cat_stored.specs.Stores.{HasKept, HasKeptWire, IsRefused};
+ghost use Rattle.cat_stored.specs.Stores.{HasKept, HasKeptWire, IsRefused, IsUnopenable};
 ghost use Rattle.cat_tool.specs.Wires.{wire_start};
 ghost use Rattle.cat_tool.specs.Words.{IsOverStore, command_of, place_of};
 ghost use Rattle.cat_ends.specs.declared.command.TheConstants.{USAGE};
@@ -161,7 +161,7 @@ fn given_back<K>(ran: Ran<K>) -> Ended<K>
 ///
 /// The status says how it ended: 0 where all input was read and answered, and for `serve` where the doors have closed; 2 for usage; 3 where
 /// the source failed; 4 where the sink failed; 5 where the keeper failed as the store was opened; 6 where a row of the store has no reading
-/// or breaks a rule, which a line names; 7 where the doors failed; 9 for want of memory, which only a mirror may tell after lines were
+/// or breaks a rule, which a line names, and then its rows are those of no state that opens; 7 where the doors failed; 9 for want of memory, which only a mirror may tell after lines were
 /// answered; 10 where 2^40 bytes were taken.
 pub fn run<
     S: Source,
@@ -185,9 +185,10 @@ pub fn run<
         × HasRun (session_after layered (program_settings rule)) (session_reply layered (program_settings rule)) result.status.0
         (S.left source.old) (S.left source.new) (O.written sink.old) (O.written sink.new) session_start end }
 
-    // A session over a store was opened from what the keeper told, and at its end the keeper tells the rows of its state; or it wasn't opened.
+    // A session over a store was opened from what the keeper told, and at its end the keeper tells the rows of its state; or it wasn't opened, and the
+    // keeper tells what it told.
     ensures stored { (rule : Option OrphanRule) → command_of (map string_bytes words.now) ≡ Some (Command.Stored rule)
-        → (result.status.0 ≡ 5) ⊎ ((result.status.0 ≡ 6) ⊎ ((result.status.0 ≡ 9)
+        → (result.status.0 ≡ 5) ⊎ ((result.status.0 ≡ 6) ⊎ (((result.status.0 ≡ 9) × Stays (K.tables (place_of (map string_bytes words.now)) keeper) (tables_left (K.tables (place_of (map string_bytes words.now))) result.keeper))
         ⊎ HasKept (place_of (map string_bytes words.now)) rule (K.tables (place_of (map string_bytes words.now)) keeper) result.status.0
         (S.left source.old) (S.left source.new) (O.written sink.old) (O.written sink.new) (λ place. tables_left (K.tables place) result.keeper) (faults_left K.faults result.keeper))) }
 
@@ -198,7 +199,7 @@ pub fn run<
 
     // The same of a connection over a store.
     ensures stored_connection { (rule : Option OrphanRule) → command_of (map string_bytes words.now) ≡ Some (Command.StoredWire rule)
-        → (result.status.0 ≡ 5) ⊎ ((result.status.0 ≡ 6) ⊎ ((result.status.0 ≡ 9)
+        → (result.status.0 ≡ 5) ⊎ ((result.status.0 ≡ 6) ⊎ (((result.status.0 ≡ 9) × Stays (K.tables (place_of (map string_bytes words.now)) keeper) (tables_left (K.tables (place_of (map string_bytes words.now))) result.keeper))
         ⊎ HasKeptWire (place_of (map string_bytes words.now)) rule (K.tables (place_of (map string_bytes words.now)) keeper) result.status.0
         (S.left source.old) (S.left source.new) (O.written sink.old) (O.written sink.new) (λ place. tables_left (K.tables place) result.keeper) (faults_left K.faults result.keeper))) }
 
@@ -253,6 +254,7 @@ pub fn run<
     ensures store_same { (result.status.0 ≡ 5) ⊎ (result.status.0 ≡ 6) → Stays (K.tables (place_of (map string_bytes words.now)) keeper) (tables_left (K.tables (place_of (map string_bytes words.now))) result.keeper) }
     ensures keeper_fault { result.status.0 ≡ 5 → Rose (K.faults keeper) (faults_left K.faults result.keeper) }
     ensures refused_store { result.status.0 ≡ 6 → IsRefused (O.written sink.old) (O.written sink.new) (O.faults sink.old) (O.faults sink.new) }
+    ensures unopenable { result.status.0 ≡ 6 → IsUnopenable (K.tables (place_of (map string_bytes words.now)) keeper) }
     ensures stores_alone { (result.status.0 ≡ 5) ⊎ (result.status.0 ≡ 6) → IsOverStore (command_of (map string_bytes words.now)) }
 
     // The keeper is given back, but of a server that began to serve over its store.

@@ -35,7 +35,7 @@ const TWO: &[u8] =
     b"{\"serial\":1,\"entities\":[{\"entity\":{\"apiVersion\":\"backstage.io/v1alpha1\",\"kind\":\"Component\",\"metadata\":{\"name\":\"web\"},\"spec\":{\"type\":\"service\",\"lifecycle\":\"production\",\"owner\":\"a\"}}},{\"entity\":{\"apiVersion\":\"backstage.io/v1alpha1\",\"kind\":\"Component\",\"metadata\":{\"name\":\"app\"},\"spec\":{\"type\":\"service\",\"lifecycle\":\"production\",\"owner\":\"a\"}}}]}";
 
 /// A book that begins with an empty catalogue.
-struct Empty;
+pub(crate) struct Empty;
 
 impl Named for Empty {
     ghost use Rattle.cat_model.specs.Step.{start};
@@ -50,9 +50,9 @@ impl Named for Empty {
 }
 
 /// A catalogue whose moment is 0 throughout.
-type Still = Fed<Layered, FixedClock>;
+pub(crate) type Still = Fed<Layered, FixedClock>;
 
-type Pages = Book<Layered, Still, Empty>;
+pub(crate) type Pages = Book<Layered, Still, Empty>;
 
 /// Holds back the first result until the second one is about to come back.
 #[derive(Drop)]
@@ -92,7 +92,7 @@ impl Gate for Meeting {
     }
 }
 
-fn empty_book(alloc: Global) -> Pages
+pub(crate) fn empty_book(alloc: Global) -> Pages
     ensures { result.journal.items ≡ [] }
 {
     sound_is_kept();

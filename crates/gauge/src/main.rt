@@ -4,9 +4,13 @@
 //! Its words are `read`, `write` or `check`, and how often. Standard input is a JSON list of descriptors; after `read-yaml`, and
 //! how often, it is a text in block YAML. It prints how many descriptors it went over in all, and how many faults it found.
 //! After the word `yaml` or `json` alone it is texts, which NUL parts: for each it prints a line, the documents of a text in
-//! block YAML as a JSON list, or the JSON of a text in JSON, or the fault. It promises nothing.
+//! block YAML as a JSON list, or the JSON of a text in JSON, or the fault. After `turns` or `lock`, a number of threads and how often
+//! each of them counts, it has them count one number beside each other: in turns, or under a lock. It promises nothing.
 #![tactic(auto)]
 
+mod turns;
+
+use crate::turns::{count_in_turns, count_under_lock};
 use cat_schema::rules::check;
 use cat_tree::read::{TreeFault, read};
 use cat_tree::tree::{Tree, Trees};
@@ -15,6 +19,8 @@ use cat_yaml::read::read_yaml;
 use std::alloc::{AllocError, Global};
 use std::env;
 use std::io::{self, Read, Write};
+use std::sync::Wait;
+use std::thread::Threads;
 
 fn faults(alloc: Global, list: &Tree) -> Result<u64, AllocError> {
     let mut count = 0u64;
@@ -112,6 +118,21 @@ fn name_of(fault: TreeFault) -> &'static str {
     }
 }
 
+// Has threads count beside each other, and says how many did, or what they counted.
+fn counted<R: Threads + Wait + Sync>(
+    rt: &R,
+    alloc: Global,
+    word: &str,
+    threads: usize,
+    acts: u64,
+) -> Result<u64, AllocError> {
+    if word == "turns" {
+        Ok(count_in_turns(rt, alloc, threads, acts)? as u64)
+    } else {
+        count_under_lock(rt, alloc, threads, acts)
+    }
+}
+
 fn main(rt: HostRuntime) -> io::Result<()> {
     let alloc = rt.alloc();
     let mut args = env::args(&rt)?.skip(1);
@@ -120,6 +141,16 @@ fn main(rt: HostRuntime) -> io::Result<()> {
         Some(text) => text.as_str().parse::<u64>().unwrap_or(1),
         None => 1,
     };
+    if word.as_str() == "turns" || word.as_str() == "lock" {
+        let acts = match args.next() {
+            Some(text) => text.as_str().parse::<u64>().unwrap_or(1),
+            None => 1,
+        };
+        return match counted(&rt, alloc, word.as_str(), times.min(16) as usize, acts) {
+            Ok(count) => println!(rt; "{count}"),
+            Err(_) => println!(rt; "no memory"),
+        };
+    }
     let mut bytes = Vec::new(alloc);
     rt.stdin().read_to_end(&mut bytes)?;
     if word.as_str() == "yaml" || word.as_str() == "json" {
