@@ -1,4 +1,3 @@
-pub mod Above
 pub mod Answer
 pub mod Kept
 pub mod Least

@@ -35,6 +35,7 @@ use cat_events::stitch::put_stitch;
 use cat_hold::hold::row_of;
 use cat_hold::layers::Layers;
 use cat_links::links::Links;
+use cat_marks::marks::Marks;
 use cat_model::rows::IndexedRows;
 use cat_model::types::{
     Acted, Counts, Fault, Finished, Order, Placed, Progress, Row, Settings, State, StateCounts,
@@ -107,8 +108,8 @@ fn empty_state(alloc: Global) -> State
         holders: Map::new(),
         records: Table::new(alloc),
         orphans: Table::new(alloc),
-        marks: Table::new(alloc),
-        documents: Table::new(alloc),
+        marks: Marks::new(),
+        documents: Map::new(),
         arrival: 1,
         number: 1,
         token: 1,
@@ -537,12 +538,11 @@ impl<L: Layers> Catalogue<L> {
     }
 
     /// The documents, in order of reference. Where the catalogue is quiet they are those computed afresh from its inputs.
-    pub fn docs(&self) -> &[(Ref, Node)]
+    pub fn docs(&self) -> &Map<Ref, Node>
         ensures docs { result.now ≡ self.now.state.documents }
-        ensures order { IsTrue (is_sorted text_cmp result.now) }
         ensures fresh { (now : ℕ) → Quiet self.now.state now → IsFresh L.rules self.now.state }
     {
-        self.ledger.state.documents.as_slice()
+        &self.ledger.state.documents
     }
 
     /// The document of a reference. Where the catalogue is quiet the documents are those computed afresh from its inputs.

@@ -5,7 +5,6 @@ ghost use Rattle.std.specs.FinMap.Entries.{is_sorted};
 ghost use Rattle.std.specs.List.{filter};
 ghost use Rattle.cat_table.specs.Table.{get, keys, text_cmp};
 ghost use Rattle.cat_frame.specs.Linked.{AreLinked, AreRecorded};
-ghost use Rattle.cat_core.specs.Above.{least_above, lesser_ticket};
 ghost use Rattle.cat_model.specs.Catalogue.{holding};
 ghost use Rattle.cat_model.specs.Reply.{is_leased, is_live, is_quiet, issues_at, next_mark, next_stitch, placed, resting, state_counts};
 ghost use Rattle.cat_model.specs.Settle.{is_due, is_empty, stitch_order};
@@ -130,49 +129,11 @@ pub fn issues_of<'a>(m: &'a State, reference: &Ref) -> Option<&'a Listing<Issue>
     }
 }
 
-// The one of two marks with the lesser ticket, the first of them where they are equal.
-fn lesser_ticket<'a>(mark: &'a (Ref, u64), best: Option<&'a (Ref, u64)>) -> &'a (Ref, u64)
-    ensures { Some result.now ≡ lesser_ticket mark.now (option_map (λ e. e.now) best.entry) }
-{
-    match best {
-        None => mark,
-        Some(best) => { if mark.1 <= best.1 { mark } else { best } }
-    }
-}
-
-// The one of two marks with the lesser ticket, of which the first counts only if its ticket is above.
-fn lesser_above<'a>(
-    after: u64,
-    mark: &'a (Ref, u64),
-    best: Option<&'a (Ref, u64)>,
-) -> Option<&'a (Ref, u64)>
-    ensures { option_map (λ e. e.now) result ≡ cond (nat_lt after mark.now.1) (lesser_ticket mark.now (option_map (λ e. e.now) best.entry)) (option_map (λ e. e.now) best.entry) }
-{
-    if after < mark.1 {
-        Some(lesser_ticket(mark, best))
-    } else {
-        best
-    }
-}
-
-// Of marks in any order, the one with the least ticket above.
-fn least_above(marks: &[(Ref, u64)], after: u64) -> Option<&(Ref, u64)>
-    ensures { option_map (λ e. e.now) result ≡ least_above after marks.now }
-{
-    let mut best = None;
-    let mut left = marks.len();
-    while left > 0 {
-        left -= 1;
-        best = lesser_above(after, &marks[left], best);
-    }
-    best
-}
-
 // The mark with the least ticket above.
-fn next_mark(m: &State, after: u64) -> Option<&(Ref, u64)>
-    ensures { option_map (λ e. e.now) result ≡ next_mark m.now after }
+fn next_mark(m: &State, after: u64) -> Option<(&Ref, u64)>
+    ensures { option_map (λ e. (e.0.now, e.1)) result ≡ next_mark m.now after }
 {
-    least_above(m.marks.as_slice(), after)
+    m.marks.next(after)
 }
 
 /// The order of the mark with the least ticket above, with the parts of its reference.
@@ -189,13 +150,13 @@ pub fn stitch_after<L: Layers>(
 {
     match next_mark(m, after) {
         None => Ok(None),
-        Some(mark) => {
-            let parts = present_parts(alloc, layers, links, m, &mark.0)?;
+        Some((reference, ticket)) => {
+            let parts = present_parts(alloc, layers, links, m, reference)?;
             match parts {
                 None => Ok(None),
                 Some(parts) => Ok(Some(StitchOrder {
-                    reference: mark.0.duplicate(alloc)?,
-                    ticket: mark.1,
+                    reference: reference.duplicate(alloc)?,
+                    ticket,
                     parts,
                 })),
             }

@@ -1,3 +1,4 @@
 pub mod Deed
 pub mod Acts
 pub mod Asks
+pub mod Shown

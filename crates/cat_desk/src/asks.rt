@@ -1,6 +1,7 @@
 //! Questions to a catalogue, at a moment.
-ghost use Rattle.std.specs.Prelude.{◌≡◌, ◌≢◌, ◌++◌, List, ℕ, option_map};
+ghost use Rattle.std.specs.Prelude.{◌≡◌, ◌≢◌, ◌++◌, List, ℕ, option_map, true};
 ghost use Rattle.cat_desk.specs.Asks.{IsAnswer, written_as};
+ghost use Rattle.cat_desk.specs.Shown.{is_shown, shown_text};
 ghost use Rattle.cat_model.specs.Reply.{is_quiet};
 ghost use Rattle.cat_replies.specs.Asks.{AskFault, ask_text, document_numbered, text_or};
 
@@ -10,8 +11,10 @@ use cat_hold::layers::Layers;
 use cat_query::answers::{push_facets, push_list, push_many, push_page};
 use cat_query::ask::Ask;
 use cat_query::facets::FacetFault;
+use cat_ref::reference::Ref;
 use cat_replies::events::{push_counts, push_quiet};
 use cat_replies::lists::{push_conflicts, push_document, push_failures, push_orphans};
+use cat_table::map::Map;
 use cat_types::node::Node;
 use std::alloc::{AllocError, Global};
 
@@ -28,11 +31,41 @@ pub fn write_ask<L: Layers>(
 {
     let state = catalogue.view();
     match ask {
-        Ask::Get(reference) => document(alloc, catalogue.get(reference), out),
+        Ask::Get(_) | Ask::List(_) | Ask::Page(_) | Ask::Facets(_) | Ask::Many(..) => {
+            write_shown(alloc, &state.documents, ask, out)
+        }
         Ask::Number(number) => numbered(alloc, catalogue, *number, out),
-        Ask::List(query) => written(push_list(alloc, out, &state.documents, query)),
-        Ask::Page(query) => written(push_page(alloc, out, &state.documents, query)),
-        Ask::Facets(query) => match push_facets(alloc, out, &state.documents, query) {
+        Ask::Conflicts => written(push_conflicts(alloc, out, state)),
+        Ask::Failed => written(push_failures(alloc, out, &state.records)),
+        Ask::Orphans => written(push_orphans(alloc, out, &state.orphans)),
+        Ask::State => written(push_counts(out, catalogue.state(now))),
+        Ask::Quiet => written(push_quiet(out, is_quiet(catalogue, now))),
+    }
+}
+
+/// Whether a question is answered from the documents alone.
+pub fn is_shown(ask: &Ask) -> bool
+    ensures { result ≡ is_shown ask.now }
+{
+    match ask {
+        Ask::Get(_) | Ask::List(_) | Ask::Page(_) | Ask::Facets(_) | Ask::Many(..) => true,
+        Ask::Number(_) | Ask::Conflicts | Ask::Failed | Ask::Orphans | Ask::State | Ask::Quiet =>
+            false,
+    }
+}
+
+/// Answers a question from documents that are all it asks for. Only what is answered `Written` changes `out`, by appending the
+/// answer.
+pub fn write_shown(alloc: Global, documents: &Map<Ref, Node>, ask: &Ask, out: &mut Vec<u8>) -> Asked
+    requires { is_shown ask.now ≡ true }
+    ensures answer { (text : List ℕ) × (out.new.items ≡ out.old.items ++ text) × IsAnswer (shown_text ask.now documents.now) result text }
+    ensures same { result ≢ Asked.Written → out.new.items ≡ out.old.items }
+{
+    match ask {
+        Ask::Get(reference) => document(alloc, documents.get(reference), out),
+        Ask::List(query) => written(push_list(alloc, out, documents, query)),
+        Ask::Page(query) => written(push_page(alloc, out, documents, query)),
+        Ask::Facets(query) => match push_facets(alloc, out, documents, query) {
             Ok(()) => Asked::Written,
             Err(FacetFault::NoFacet) => Asked::NoFacet,
             Err(FacetFault::NoMemory) => Asked::NoMemory,
@@ -40,15 +73,12 @@ pub fn write_ask<L: Layers>(
         Ask::Many(references, fields) => written(push_many(
             alloc,
             out,
-            &state.documents,
+            documents,
             references.as_slice(),
             fields,
         )),
-        Ask::Conflicts => written(push_conflicts(alloc, out, state)),
-        Ask::Failed => written(push_failures(alloc, out, &state.records)),
-        Ask::Orphans => written(push_orphans(alloc, out, &state.orphans)),
-        Ask::State => written(push_counts(out, catalogue.state(now))),
-        Ask::Quiet => written(push_quiet(out, is_quiet(catalogue, now))),
+        Ask::Number(_) | Ask::Conflicts | Ask::Failed | Ask::Orphans | Ask::State | Ask::Quiet =>
+            unreachable!(),
     }
 }
 

@@ -15,8 +15,6 @@
 mod disk;
 mod memory;
 mod replay;
-#[cfg(test)]
-mod tests;
 
 pub use disk::{Disk, DiskDone, DiskRead, MAX_LENGTH};
 pub use memory::MemoryDisk;

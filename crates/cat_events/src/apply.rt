@@ -1,7 +1,8 @@
 //! A plan is made to stand: its room is taken first, and then nothing can fail.
-ghost use Rattle.std.specs.Prelude.{◌≡◌, is_ok, if◌then◌else◌, IsTrue};
+ghost use Rattle.std.specs.Prelude.{◌≡◌, [], is_ok, if◌then◌else◌, IfOk, IsTrue};
 ghost use Rattle.std.specs.FinMap.Entries.{is_sorted};
 ghost use Rattle.cat_table.specs.Table.{text_cmp};
+ghost use Rattle.cat_frame.specs.Amended.{amended};
 ghost use Rattle.cat_model.specs.Sound.{AreOrdered};
 ghost use Rattle.cat_events.specs.Planned.{given_by, planned, with_marks, with_orphans, with_records, without_documents};
 
@@ -12,26 +13,33 @@ use cat_links::links::Links;
 use cat_model::types::{Orphan, Record, State};
 use cat_ref::reference::Ref;
 use cat_table::listing::Listing;
+use cat_table::map::Map;
+use cat_types::node::Node;
 use cat_types::table::Table;
 use std::alloc::{AllocError, Global};
 use std::mem;
 
+// The documents without those of some references. What stays is shared.
+fn documents_left(
+    alloc: Global,
+    documents: &Map<Ref, Node>,
+    gone: &[Ref],
+) -> Result<Map<Ref, Node>, AllocError>
+    ensures { IfOk result (λ left. left ≡ amended [] gone.now documents.now) }
+{
+    let mut left = documents.share()?;
+    for reference in gone {
+        left.remove(alloc, reference)?;
+    }
+    Ok(left)
+}
+
 // The documents of some references go.
 fn amend_documents(alloc: Global, gone: Listing<Ref>, state: &mut State) -> Result<(), AllocError>
-    requires { AreOrdered state.old }
     ensures { state.new ≡ (if is_ok result then without_documents gone state.old else state.old) }
 {
-    let documents = mem::replace(&mut state.documents, Table::new(alloc));
-    match documents.ready(alloc, Vec::new(alloc), gone) {
-        Ok(ready) => {
-            state.documents = ready.after();
-            Ok(())
-        }
-        Err(documents) => {
-            state.documents = documents;
-            Err(AllocError)
-        }
-    }
+    state.documents = documents_left(alloc, &state.documents, gone.as_slice())?;
+    Ok(())
 }
 
 // Marks are amended where the documents could be.
@@ -41,26 +49,14 @@ fn amend_marks(
     gone: Listing<Ref>,
     state: &mut State,
 ) -> Result<(), AllocError>
-    requires { AreOrdered state.old }
     ensures { state.new ≡ (if is_ok result then with_marks marks gone state.old else state.old) }
 {
-    let before = mem::replace(&mut state.marks, Table::new(alloc));
-    match before.ready(alloc, marks.put, marks.gone) {
-        Ok(ready) => match amend_documents(alloc, gone, state) {
-            Ok(()) => {
-                state.marks = ready.after();
-                Ok(())
-            }
-            Err(refused) => {
-                state.marks = ready.before();
-                Err(refused)
-            }
-        },
-        Err(before) => {
-            state.marks = before;
-            Err(AllocError)
-        }
-    }
+    let after = state
+        .marks
+        .amended(alloc, marks.put, marks.gone.as_slice())?;
+    amend_documents(alloc, gone, state)?;
+    state.marks = after;
+    Ok(())
 }
 
 // Orphans are amended where marks and documents could be.

@@ -29,8 +29,10 @@ pub fn put_stitch<L: Layers>(
     if present_stitch(alloc, layers, order, state, links)? {
         let reference = order.reference.duplicate(alloc)?;
         let document = stitched.document().duplicate(alloc)?;
-        state.documents.put(reference, document)?;
-        state.marks.remove(&order.reference);
+        let mut marks = state.marks.share()?;
+        marks.remove(alloc, &order.reference)?;
+        state.documents.put(alloc, reference, document)?;
+        state.marks = marks;
     }
     Ok(None)
 }

@@ -1,12 +1,10 @@
 //! A catalogue with a clock and a feed.
-ghost use Rattle.std.specs.Prelude.{◌≡◌, ◌≢◌, ◌++◌, IsTrue, List, ℕ};
-ghost use Rattle.std.specs.FinMap.Entries.{is_sorted};
+ghost use Rattle.std.specs.Prelude.{◌≡◌, ◌≢◌, ◌++◌, List, ℕ};
 ghost use Rattle.cat_desk.specs.Acts.{ActsOnce};
 ghost use Rattle.cat_desk.specs.Asks.{AsksOnce};
 ghost use Rattle.cat_desk.specs.Deed.{deed_of};
 ghost use Rattle.cat_fed.specs.Told.{Tells, refused_as, written_as};
 ghost use Rattle.cat_feed.specs.Feed.{begun};
-ghost use Rattle.cat_table.specs.Table.{text_cmp};
 
 use crate::desk::{FeedAnswer, FeedDesk};
 use cat_changes::write::write_changes;
@@ -21,6 +19,7 @@ use cat_hold::layers::Layers;
 use cat_io::Clock;
 use cat_query::ask::Ask;
 use cat_ref::reference::Ref;
+use cat_table::map::Map;
 use cat_types::node::Node;
 use std::alloc::{AllocError, Global};
 
@@ -110,11 +109,10 @@ impl<'a, L: Layers, C: Clock> FeedDesk<Done<'a, L>, Stitched<'a, L>> for Fed<L, 
 pub fn tell(
     alloc: Global,
     feed: &mut Feed,
-    documents: &[(Ref, Node)],
+    documents: &Map<Ref, Node>,
     since: Option<Since>,
     out: &mut Vec<u8>,
 ) -> FeedAnswer
-    requires { IsTrue (is_sorted text_cmp documents.now) }
     ensures answer { (text : List ℕ) × (out.new.items ≡ out.old.items ++ text) × Tells documents.now since feed.old feed.new result text }
     ensures same { result ≢ FeedAnswer.Written → out.new.items ≡ out.old.items }
 {

@@ -1,3 +1,4 @@
 pub mod Changes
 pub mod Walk
+pub mod Rest
 pub mod Feed

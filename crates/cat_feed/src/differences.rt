@@ -1,14 +1,15 @@
 //! What differs between a copy of documents and the documents, found in one walk over both.
-ghost use Rattle.std.specs.Prelude.{◌≡◌, ◌++◌, ◌∷◌, [], List, None, Some, IfOk, OnOk, IsTrue};
-ghost use Rattle.std.specs.FinMap.Entries.{is_sorted};
-ghost use Rattle.cat_table.specs.Table.{text_cmp};
+ghost use Rattle.std.specs.Prelude.{◌≡◌, ◌++◌, ◌∷◌, [], List, None, Some, IfOk, OnOk};
+ghost use Rattle.cat_table.specs.Left.{items_left};
 ghost use Rattle.cat_feed.specs.Changes.{Difference, Documents, differences, sets};
+ghost use Rattle.cat_feed.specs.Rest.{left};
 ghost use Rattle.cat_feed.specs.Walk.{unless_same, walked_at};
 
 use cat_ref::reference::Ref;
 use cat_table::key::Key;
 use cat_table::listing::Copied;
 use cat_table::map::Map;
+use cat_table::tree::Items;
 use cat_types::node::Node;
 use std::alloc::{AllocError, Global};
 use std::cmp::Ordering;
@@ -16,52 +17,74 @@ use std::cmp::Ordering;
 /// What is new under a reference: the document, or that there is none any more.
 pub type Difference = (Ref, Option<Node>);
 
+// The documents that a walk has not met yet: the first of them, and those after it.
+#[derive(Drop)]
+struct Rest<'a> {
+    first: Option<&'a (Ref, Node)>,
+    after: Items<'a, (Ref, Node)>,
+}
+
 /// What is new under each reference whose document differs from the copy's, in order of reference.
 #[tactic(auto, using(crate::proofs::Walked::walk_finds))]
 pub fn differences(
     alloc: Global,
     copy: &Map<Ref, Node>,
-    documents: &[(Ref, Node)],
+    documents: &Map<Ref, Node>,
 ) -> Result<Vec<Difference>, AllocError>
-    requires { IsTrue (is_sorted text_cmp documents.now) }
     ensures { IfOk result (λ v. v.items ≡ differences copy.now documents.now) }
 {
     copy.in_order();
+    documents.in_order();
     let mut found = Vec::new(alloc);
-    let mut rest = documents;
+    let mut rest = all(documents);
     for (reference, node) in copy.iter() {
-        rest = push_met(alloc, &mut found, reference, node, rest)?;
+        push_met(alloc, &mut found, reference, node, &mut rest)?;
     }
-    push_sets(alloc, &mut found, rest)?;
+    push_sets(alloc, &mut found, &mut rest)?;
     Ok(found)
 }
 
-// Walks over the documents up to a reference of the copy, adds what is new there, and answers the documents that are left.
-fn push_met<'a>(
+// All documents.
+fn all(documents: &Map<Ref, Node>) -> Rest<'_>
+    ensures { left result ≡ documents.now }
+{
+    let mut after = documents.iter();
+    let first = after.next();
+    Rest { first, after }
+}
+
+// Goes past the first document.
+fn pass(rest: &mut Rest<'_>)
+    ensures { left rest.new ≡ items_left rest.old.after }
+{
+    rest.first = rest.after.next();
+}
+
+// Walks over the documents up to a reference of the copy, and adds what is new there.
+fn push_met(
     alloc: Global,
     found: &mut Vec<Difference>,
     reference: &Ref,
     node: &Node,
-    documents: &'a [(Ref, Node)],
-) -> Result<&'a [(Ref, Node)], AllocError>
-    ensures { IfOk result (λ rest. (next : Documents → List Difference)
-        → found.new.items ++ next rest.now ≡ found.old.items ++ walked_at (reference.now, node.now) next documents.now) }
+    rest: &mut Rest<'_>,
+) -> Result<(), AllocError>
+    ensures { OnOk result ((next : Documents → List Difference)
+        → found.new.items ++ next (left rest.new) ≡ found.old.items ++ walked_at (reference.now, node.now) next (left rest.old)) }
 {
-    for (place, entry) in documents.iter().enumerate() {
+    while let Some(entry) = rest.first {
         match reference.compare(&entry.0) {
-            Ordering::Less => {
-                push_gone(alloc, found, reference)?;
-                return Ok(&documents[place..]);
-            }
+            Ordering::Less => return push_gone(alloc, found, reference),
             Ordering::Equal => {
-                push_unless_same(alloc, found, node, entry)?;
-                return Ok(&documents[place + 1..]);
+                pass(rest);
+                return push_unless_same(alloc, found, node, entry);
             }
-            Ordering::Greater => push_set(alloc, found, entry)?,
+            Ordering::Greater => {
+                push_set(alloc, found, entry)?;
+                pass(rest);
+            }
         }
     }
-    push_gone(alloc, found, reference)?;
-    Ok(&documents[documents.len()..])
+    push_gone(alloc, found, reference)
 }
 
 // Adds that there is no document any more.
@@ -99,16 +122,17 @@ fn push_unless_same(
     push_set(alloc, found, entry)
 }
 
-// Adds each of these documents.
+// Adds each of the documents that are left.
 fn push_sets(
     alloc: Global,
     found: &mut Vec<Difference>,
-    documents: &[(Ref, Node)],
+    rest: &mut Rest<'_>,
 ) -> Result<(), AllocError>
-    ensures { OnOk result (found.new.items ≡ found.old.items ++ sets documents.now) }
+    ensures { OnOk result (found.new.items ≡ found.old.items ++ sets (left rest.old)) }
 {
-    for entry in documents {
+    while let Some(entry) = rest.first {
         push_set(alloc, found, entry)?;
+        pass(rest);
     }
     Ok(())
 }

@@ -61,10 +61,9 @@ impl Feed {
     pub fn ask(
         &mut self,
         alloc: Global,
-        documents: &[(Ref, Node)],
+        documents: &Map<Ref, Node>,
         since: Option<Since>,
     ) -> Result<Changes, FeedFault>
-        requires { IsTrue (is_sorted text_cmp documents.now) }
         ensures ok { IfOk result (λ c. asked documents.now since self.old ≡ Ok c) }
         ensures err { IfErr result (λ e. (asked documents.now since self.old ≡ Err e) ⊎ (e ≡ FeedFault.NoMemory)) }
         ensures feed { self.new ≡ (if is_taken result then taken_in documents.now self.old else self.old) }
@@ -72,6 +71,7 @@ impl Feed {
         ensures follows { IfOk result (λ c. (ds : Documents) (s : Place) → since ≡ Some s → Follows ds s.number self.old → applied c.list ds ≡ documents.now) }
         ensures whole { IfOk result (λ c. since ≡ None → applied c.list [] ≡ documents.now) }
     {
+        documents.in_order();
         ask(alloc, &mut self.ledger, documents, since)
     }
 }
@@ -80,11 +80,10 @@ impl Feed {
 fn ask(
     alloc: Global,
     ledger: &mut Ledger,
-    documents: &[(Ref, Node)],
+    documents: &Map<Ref, Node>,
     since: Option<Since>,
 ) -> Result<Changes, FeedFault>
-    requires order { IsTrue (is_sorted text_cmp documents.now) }
-    requires kept { IsKept ledger.old }
+    requires { IsKept ledger.old }
     ensures ok { IfOk result (λ c. asked documents.now since ledger.old ≡ Ok c) }
     ensures err { IfErr result (λ e. (asked documents.now since ledger.old ≡ Err e) ⊎ (e ≡ FeedFault.NoMemory)) }
     ensures feed { ledger.new ≡ (if is_taken result then taken_in documents.now ledger.old else ledger.old) }
@@ -102,7 +101,7 @@ fn answered(
     alloc: Global,
     ledger: &mut Ledger,
     next: Ledger,
-    documents: &[(Ref, Node)],
+    documents: &Map<Ref, Node>,
     since: Option<Since>,
 ) -> Result<Changes, FeedFault>
     requires kept { IsKept ledger.old }
@@ -123,15 +122,15 @@ fn answered(
 }
 
 // The ledger once it has taken the documents in.
-fn advanced(alloc: Global, ledger: &Ledger, documents: &[(Ref, Node)]) -> Result<Ledger, FeedFault>
-    requires order { IsTrue (is_sorted text_cmp documents.now) }
-    requires kept { IsKept ledger.now }
+fn advanced(alloc: Global, ledger: &Ledger, documents: &Map<Ref, Node>) -> Result<Ledger, FeedFault>
+    requires { IsKept ledger.now }
     ensures ok { IfOk result (λ l. (is_spent documents.now ledger.now ≡ false) × (l ≡ taken_in documents.now ledger.now)) }
     ensures err { IfErr result (λ e. ((is_spent documents.now ledger.now ≡ true) × (e ≡ FeedFault.Spent)) ⊎ (e ≡ FeedFault.NoMemory)) }
     ensures steady { IfOk result IsKept }
     ensures order { IsTrue (is_sorted text_cmp ledger.now.copy) }
 {
     ledger.copy.in_order();
+    documents.in_order();
     let found = differences(alloc, &ledger.copy, documents)?;
     with_changes(alloc, ledger, found.as_slice())
 }

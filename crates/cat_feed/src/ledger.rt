@@ -101,7 +101,7 @@ fn push_last(
 pub fn answer(
     alloc: Global,
     ledger: &Ledger,
-    documents: &[(Ref, Node)],
+    documents: &Map<Ref, Node>,
     since: Option<Since>,
 ) -> Result<Changes, FeedFault>
     requires copy { ledger.now.copy ≡ documents.now }
@@ -126,7 +126,7 @@ fn place(ledger: &Ledger) -> Since
 }
 
 // What leads from nowhere to the ledger's place.
-fn whole(alloc: Global, ledger: &Ledger, documents: &[(Ref, Node)]) -> Result<Changes, FeedFault>
+fn whole(alloc: Global, ledger: &Ledger, documents: &Map<Ref, Node>) -> Result<Changes, FeedFault>
     requires { ledger.now.copy ≡ documents.now }
     ensures ok { IfOk result (λ c. spec.answer None ledger.now ≡ Ok c) }
     ensures err { IfErr result (λ e. e ≡ FeedFault.NoMemory) }
@@ -177,13 +177,15 @@ fn refuse(ledger: &Ledger, since: Since) -> Result<(), FeedFault>
 }
 
 // A change for each document, numbered from 1.
-fn all_set(alloc: Global, documents: &[(Ref, Node)]) -> Result<Vec<Change>, AllocError>
+fn all_set(alloc: Global, documents: &Map<Ref, Node>) -> Result<Vec<Change>, AllocError>
     ensures { IfOk result (λ v. v.items ≡ numbered 0 (sets documents.now)) }
 {
     let mut changes = Vec::with_capacity(alloc, documents.len())?;
-    for (place, (reference, node)) in documents.iter().enumerate() {
+    let mut count = 0;
+    for (reference, node) in documents.iter() {
+        count += 1;
         changes.push(Change {
-            number: place as u64 + 1,
+            number: count,
             reference: reference.copy(alloc)?,
             set: Some(node.duplicate(alloc)?),
         })?;

@@ -21,6 +21,8 @@ use Rattle.cat_items.specs.contracts.items.OfferedItems as OfferedItems
 use Rattle.cat_items.specs.contracts.items.OfferedItems.TheInside as counted
 use Rattle.cat_links.specs.contracts.links.Links as Links
 use Rattle.cat_links.specs.contracts.links.Links.TheInside as linked
+use Rattle.cat_marks.specs.contracts.marks.Marks as Marks
+use Rattle.cat_marks.specs.contracts.marks.Marks.TheInside as marked
 use Rattle.cat_model.specs.contracts.rows.IndexedRows as IndexedRows
 use Rattle.cat_model.specs.contracts.rows.IndexedRows.TheInside as indexed
 use Rattle.cat_model.specs.contracts.types.ProviderInputs as ProviderInputs
@@ -92,6 +94,12 @@ rows_send = view_send _ _ _ _ _ (declared_send indexed.the_type (
   (search (Map-send, Map-sync, known) depth 60, (search (Map-send, Map-sync, known) depth 60, tt)),
 ))
 
+marks_send : IsSend Marks.the_row
+marks_send = view_send _ _ _ _ _ (declared_send marked.the_type (
+  search (Map-send, known) depth 60,
+  (search (Map-send, entry_send, entry_sync, known) depth 60, tt),
+))
+
 pub state_send : IsSend State.the_row
 state_send = declared_send State.the_type (
   search (inputs_send, known) depth 60,
@@ -106,9 +114,9 @@ state_send = declared_send State.the_type (
           (
             search known depth 60,
             (
-              search known depth 60,
+              search (marks_send, known) depth 60,
               (
-                search known depth 60,
+                search (Map-send, known) depth 60,
                 (search known depth 60, (search known depth 60, (search known depth 60, (search known depth 60, tt)))),
               ),
             ),

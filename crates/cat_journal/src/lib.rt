@@ -23,5 +23,3 @@ pub mod history;
 pub mod keeper;
 pub mod load;
 pub mod records;
-#[cfg(test)]
-mod tests;

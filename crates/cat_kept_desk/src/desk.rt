@@ -68,6 +68,13 @@ impl<L: Layers, C: Clock, K: Keeper> KeptDesk<L, C, K> {
             refusals: 0,
         }
     }
+
+    /// Lends the catalogue.
+    pub fn catalogue(&self) -> &Catalogue<L>
+        ensures { result.now ≡ self.now.catalogue }
+    {
+        &self.catalogue
+    }
 }
 
 impl<L: Layers + Drop, C: Clock + Drop, K: Keeper> KeptDesk<L, C, K> {

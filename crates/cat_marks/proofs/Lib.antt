@@ -1,2 +1,2 @@
-pub mod Entries
-pub mod Marking
+pub mod Indexed
+pub mod Least

@@ -1,66 +1,53 @@
--- Marks of references, each with a ticket, and what each call makes of them.
-use Rattle.std.specs.Prelude.{◌≡◌, ℕ, ◌+◌, ◌-◌, ◌<◌, ◌≤◌, ◌^◌, Bool, false, cond, nat_eq, max, T, []}
+-- Marks by reference, and their tickets in order.
+use Rattle.std.specs.Prelude.{◌≡◌, ℕ, Bool, false, cond, nat_le, nat_lt, is_some, List, [], ◌∷◌}
+use Rattle.std.specs.Ordering.{eq_by_cmp, nat_cmp}
+use Rattle.std.specs.declared.cmp.Ordering.{Ordering}
 use Rattle.std.specs.declared.option.Option.{Option}
 use Rattle.std.specs.declared.option.Option.TheVariants.{None, Some}
-use Rattle.std.specs.FinMap.Entries.{is_sorted}
-use Rattle.cat_table.specs.Table.{Map, Text, get, over, put, same_text, text_cmp}
-use Rattle.cat_marks.specs.declared.answers.Putting.{Putting}
-use Rattle.cat_marks.specs.declared.answers.Putting.TheVariants.{Counted, Late}
+use Rattle.cat_table.specs.Pairs.{pair_cmp}
+use Rattle.cat_table.specs.Rows.{without}
+use Rattle.cat_table.specs.Table.{Text, find, get, put, text_cmp}
 
--- the tickets of the marked references, the next ticket, and how many marks can be set without memory
-pub record MarkSet : Type 0 where
-  pub marks : Map ℕ
-  pub ticket : ℕ
-  pub spare : ℕ
+-- a reference, and the ticket of its mark
+abbrev pub Mark : Type 0
+Mark = Text × ℕ
 
--- the references stand in order, their tickets are drawn ones and differ, and what is spare stays within the tickets to 2^59
-pub record AreMarks (m : MarkSet) : Type 0 where
-  pub in_order : T (is_sorted text_cmp m.marks)
-  pub from_one : (q : Text) (ticket : ℕ) → get m.marks q ≡ Some ticket → 1 ≤ ticket
-  pub drawn : (q : Text) (ticket : ℕ) → get m.marks q ≡ Some ticket → ticket < m.ticket
-  pub apart : (q r : Text) (ticket : ℕ) → get m.marks q ≡ Some ticket → get m.marks r ≡ Some ticket → q ≡ r
-  pub first : 1 ≤ m.ticket
-  pub last : m.ticket + m.spare ≤ 2 ^ 59
+-- ---- the mark with the least ticket above another
 
--- no marks, and the first ticket next
-abbrev pub no_marks : MarkSet
-no_marks = record { marks = []; ticket = 1; spare = 0 }
+-- the one of two marks with the lesser ticket, the first of them where they are equal
+abbrev pub lesser_ticket : Mark → Option Mark → Option Mark
+lesser_ticket e None = Some e
+lesser_ticket e (Some b) = cond (nat_le e.1 b.1) (Some e) (Some b)
 
--- with room for this many marks at least
-abbrev pub with_room : ℕ → MarkSet → MarkSet
-with_room more m = record m { spare = max m.spare more }
+-- of marks in any order, the one with the least ticket above
+abbrev pub least_above : ℕ → List Mark → Option Mark
+least_above after [] = None
+least_above after (e ∷ es) = cond (nat_lt after e.1) (lesser_ticket e (least_above after es)) (least_above after es)
 
--- the reference is marked with the next ticket
-abbrev pub with_mark : Text → MarkSet → MarkSet
-with_mark r m = record { marks = put text_cmp r m.ticket m.marks; ticket = m.ticket + 1; spare = m.spare - 1 }
+-- ---- marks by ticket
 
--- the marks of the other references
-abbrev pub without : Text → Map ℕ → Map ℕ
-without r marks = over text_cmp marks (λ q ticket. cond (same_text r q) None (Some ticket))
+-- tickets with the references that are marked with them
+abbrev pub Tickets : Type 0
+Tickets = List ((ℕ × Text) × Unit {0})
 
--- the reference has no mark
-abbrev pub without_mark : Text → MarkSet → MarkSet
-without_mark r m = record m { marks = without r m.marks }
+-- they are ordered by ticket, and by reference where tickets tie
+abbrev pub ticket_cmp : ℕ × Text → ℕ × Text → Ordering
+ticket_cmp = pair_cmp nat_cmp text_cmp
 
 -- whether a mark has this ticket
 abbrev pub is_ticket : ℕ → Option ℕ → Bool
-is_ticket ticket None = false
-is_ticket ticket (Some x) = nat_eq ticket x
+is_ticket t None = false
+is_ticket t (Some u) = eq_by_cmp nat_cmp t u
 
--- a put counts where the ticket is the mark's
-abbrev pub put_answer : ℕ → Option ℕ → Putting
-put_answer ticket mark = cond (is_ticket ticket mark) Counted (Late mark)
+-- a ticket stands with a reference exactly where the reference's mark has it
+pub record IsIndexed (marks : List Mark) (tickets : Tickets) : Type 0 where
+  pub same : (t : ℕ) (r : Text) → is_some (find ticket_cmp (t, r) tickets) ≡ is_ticket t (get marks r)
 
--- a put that counts takes the mark away, and another changes nothing
-abbrev pub after_put : ℕ → Option ℕ → Text → MarkSet → MarkSet
-after_put ticket mark r m = cond (is_ticket ticket mark) (without_mark r m) m
+-- the tickets without that of a reference's mark, if it has one
+abbrev pub tickets_without : Text → Option ℕ → Tickets → Tickets
+tickets_without r None tickets = tickets
+tickets_without r (Some t) tickets = without ticket_cmp (t, r) tickets
 
--- no mark has a ticket above this
-abbrev pub HasNoneAfter : ℕ → Map ℕ → Type 0
-HasNoneAfter after marks = (q : Text) (ticket : ℕ) → get marks q ≡ Some ticket → ticket ≤ after
-
--- the reference has the mark with the least ticket above `after`
-pub record IsNextAfter (after : ℕ) (marks : Map ℕ) (r : Text) (ticket : ℕ) : Type 0 where
-  pub marked : get marks r ≡ Some ticket
-  pub above : after < ticket
-  pub least : (q : Text) (other : ℕ) → get marks q ≡ Some other → after < other → ticket ≤ other
+-- the tickets with one for a reference, in place of that of the mark that it had
+abbrev pub tickets_with : ℕ → Text → Option ℕ → Tickets → Tickets
+tickets_with t r old tickets = put ticket_cmp (t, r) tt (tickets_without r old tickets)

@@ -1,130 +1,210 @@
-//! The marks of a catalogue.
-ghost use Rattle.std.specs.Prelude.{◌≡◌, ◌+◌, ◌<◌, ◌≤◌, ◌^◌, ◌↔◌, None, Some, OnOk, OnErr, IsErrOf, MatchOption, length};
-ghost use Rattle.cat_table.specs.Table.{get};
-ghost use Rattle.cat_marks.specs.Marks.{AreMarks, HasNoneAfter, IsNextAfter, after_put, no_marks, put_answer, with_mark, with_room, without_mark};
+//! The marks of a catalogue, by reference and by ticket.
+ghost use Rattle.std.specs.Prelude.{◌≡◌, ◌==◌, ◌+◌, [], IfOk, IsTrue, if◌then◌else◌, is_ok, length, option_map};
+ghost use Rattle.std.specs.FinMap.Entries.{is_sorted};
+ghost use Rattle.cat_table.specs.Left.{items_left};
+ghost use Rattle.cat_table.specs.Rows.{without};
+ghost use Rattle.cat_table.specs.Table.{get, put, text_cmp};
+ghost use Rattle.cat_types.specs.Amended.{amended};
+ghost use Rattle.cat_marks.specs.Marks.{least_above, tickets_with, tickets_without};
 
-use crate::answers::{MarkFault, Marked, Putting};
-use crate::places::{next_after, place_of, put_mark, remove_mark};
 use cat_ref::reference::Ref;
-use std::alloc::Global;
+use cat_table::key::{Key, Seek};
+use cat_table::listing::Copied;
+use cat_table::map::Map;
+use cat_table::tree::Items;
+use std::alloc::{AllocError, Global};
+use std::cmp::Ordering;
 use std::marker::Model;
 
-// No ticket passes this.
-const LAST_TICKET: u64 = 1 << 59;
+// Each mark by its ticket, and by its reference where tickets tie.
+type Tickets = Map<(u64, Ref), ()>;
 
-/// Which references' documents have to be stitched again, each under the ticket that was drawn when it was marked.
-/// Contracts see the tickets by reference, in order, the next ticket, and how many marks can be set without memory.
+/// Which references' documents have to be stitched again, each under the ticket of its mark. Contracts see the tickets by
+/// reference, in order. A copy shares all of it and takes no memory.
 #[derive(Drop)]
 pub struct Marks {
-    items: Vec<(Ref, u64)>,
-    ticket: u64,
-    spare: u64,
+    marks: Map<Ref, u64>,
+    by_ticket: Tickets,
 }
 
 impl Model for Marks {
-    ghost use Rattle.cat_marks.specs.Marks.{MarkSet};
+    ghost use Rattle.cat_marks.specs.Marks.{IsIndexed, Mark};
+    ghost use Rattle.std.specs.Prelude.{List};
+    ghost use Rattle.std.specs.Coded.{coded_list, coded×, coded_ℕ};
 
-    ghost Value = { MarkSet };
+    ghost Value = { List Mark };
 
-    ghost use Rattle.cat_marks.specs.Kept.{IsKept, marks_of};
+    ghost coded = { coded_list (coded× (coded_list coded_ℕ) coded_ℕ) };
 
-    ghost view = { marks_of };
+    ghost view = { λ a. a.marks };
 
-    ghost invariant = { IsKept };
+    ghost invariant = { λ a. IsIndexed a.marks a.by_ticket };
+}
+
+// Stands for the first key that a mark with a ticket above this one may have.
+#[derive(Drop)]
+struct Above {
+    ticket: u64,
+}
+
+impl Seek<(u64, Ref)> for Above {
+    ghost sought = { λ a. (a.ticket + 1, []) };
+
+    fn compare_with(&self, other: &(u64, Ref)) -> Ordering {
+        if other.0 <= self.ticket {
+            return Ordering::Greater;
+        }
+        let below = other.0 - 1;
+        match self.ticket.cmp(&below) {
+            Ordering::Equal => "".cmp(other.1.as_str()),
+            unequal => unequal,
+        }
+    }
+}
+
+// The tickets without that of a reference.
+fn tickets_without(
+    alloc: Global,
+    marks: &Map<Ref, u64>,
+    tickets: &Tickets,
+    reference: &Ref,
+) -> Result<Tickets, AllocError>
+    ensures { IfOk result (λ x. x ≡ tickets_without reference.now (get marks.now reference.now) tickets.now) }
+{
+    let mut next = tickets.share()?;
+    if let Some(ticket) = marks.get(reference) {
+        next.remove(alloc, &(*ticket, reference.duplicate(alloc)?))?;
+    }
+    Ok(next)
+}
+
+// The tickets with this one of a reference, in place of the one that it had.
+fn tickets_with(
+    alloc: Global,
+    marks: &Map<Ref, u64>,
+    tickets: &Tickets,
+    reference: &Ref,
+    ticket: u64,
+) -> Result<Tickets, AllocError>
+    ensures { IfOk result (λ x. x ≡ tickets_with ticket reference.now (get marks.now reference.now) tickets.now) }
+{
+    let mut next = tickets_without(alloc, marks, tickets, reference)?;
+    next.put(alloc, (ticket, reference.duplicate(alloc)?), ())?;
+    Ok(next)
+}
+
+impl Copied for Marks {
+    fn duplicate(&self, _alloc: Global) -> Result<Marks, AllocError> {
+        self.share()
+    }
 }
 
 impl Marks {
-    /// No marks; the next ticket is 1. Takes no memory.
-    pub fn empty(alloc: Global) -> Marks
-        ensures { result ≡ no_marks }
+    /// No marks. Takes no memory.
+    pub fn new() -> Marks
+        ensures { result ≡ [] }
     {
         Marks {
-            items: Vec::new(alloc),
-            ticket: 1,
-            spare: 0,
+            marks: Map::new(),
+            by_ticket: Map::new(),
         }
     }
 
-    /// How many references are marked. Its second clause says what holds of marks between two calls.
+    /// How many references are marked.
     pub fn len(&self) -> usize
-        ensures len { result ≡ length self.now.marks }
-        ensures kept { AreMarks self.now }
+        ensures { result ≡ length self.now }
     {
-        self.items.len()
+        self.marks.len()
+    }
+
+    /// Whether no reference is marked.
+    pub fn is_empty(&self) -> bool
+        ensures { result ≡ (length self.now == 0) }
+    {
+        self.marks.is_empty()
+    }
+
+    /// References rise. Does nothing; its callers learn it.
+    pub fn in_order(&self)
+        ensures { IsTrue (is_sorted text_cmp self.now) }
+    {
+        self.marks.in_order();
     }
 
     /// The ticket of a reference's mark; none where it has no mark.
-    pub fn get(&self, reference: &Ref) -> Option<u64>
-        ensures { result ≡ get self.now.marks reference.now }
+    pub fn get(&self, reference: &Ref) -> Option<&u64>
+        ensures { option_map (λ x. x.now) result ≡ get self.now reference.now }
     {
-        let place = place_of(self.items.as_slice(), reference)?;
-        Some(self.items[place].1)
+        self.marks.get(reference)
     }
 
-    /// Makes room, so that this many marks at least can be set without memory.
-    ///
-    /// # Errors
-    ///
-    /// `Spent` exactly where so many tickets would pass 2^59, and otherwise `NoMemory` where memory is wanted, which it is
-    /// only for more marks than there is room for. Then the marks are as before.
-    pub fn reserve(&mut self, more: u64) -> Result<(), MarkFault>
-        ensures ok { OnOk result (self.new ≡ with_room more self.old) }
-        ensures err { OnErr result (self.new ≡ self.old) }
-        ensures spent { IsErrOf result MarkFault.Spent ↔ (2 ^ 59 < self.old.ticket + more) }
-        ensures memory { IsErrOf result MarkFault.NoMemory → self.old.spare < more }
+    /// A copy that shares the marks. Takes no memory.
+    pub fn share(&self) -> Result<Marks, AllocError>
+        ensures { IfOk result (λ m. m ≡ self.now) }
     {
-        if LAST_TICKET - self.ticket < more {
-            return Err(MarkFault::Spent);
-        }
-        if self.spare < more {
-            self.items.reserve(more as usize)?;
-            self.spare = more;
-        }
+        Ok(Marks {
+            marks: self.marks.share()?,
+            by_ticket: self.by_ticket.share()?,
+        })
+    }
+
+    /// Lends the marks in order of their references.
+    pub fn iter(&self) -> Items<'_, (Ref, u64)>
+        ensures { items_left result ≡ self.now }
+    {
+        self.marks.iter()
+    }
+
+    /// Marks a reference with this ticket, in place of the one that it had. Where memory is wanted, all is as before.
+    pub fn put(&mut self, alloc: Global, reference: Ref, ticket: u64) -> Result<(), AllocError>
+        ensures { self.new ≡ (if is_ok result then put text_cmp reference ticket self.old else self.old) }
+    {
+        let by_ticket = tickets_with(alloc, &self.marks, &self.by_ticket, &reference, ticket)?;
+        self.marks.put(alloc, reference, ticket)?;
+        self.by_ticket = by_ticket;
         Ok(())
     }
 
-    /// Marks a reference with the next ticket, which it answers. A mark that the reference had before is replaced. Takes no
-    /// memory.
-    pub fn mark(&mut self, reference: Ref) -> u64
-        requires { 1 ≤ self.old.spare }
-        ensures ticket { result ≡ self.old.ticket }
-        ensures marks { self.new ≡ with_mark reference self.old }
+    /// Takes a reference's mark away, if it has one. Where memory is wanted, all is as before.
+    pub fn remove(&mut self, alloc: Global, reference: &Ref) -> Result<(), AllocError>
+        ensures { self.new ≡ (if is_ok result then without text_cmp reference.now self.old else self.old) }
     {
-        let ticket = self.ticket;
-        put_mark(&mut self.items, reference, ticket);
-        self.ticket = ticket + 1;
-        self.spare -= 1;
-        ticket
+        let by_ticket = tickets_without(alloc, &self.marks, &self.by_ticket, reference)?;
+        self.marks.remove(alloc, reference)?;
+        self.by_ticket = by_ticket;
+        Ok(())
     }
 
-    /// Takes a reference's mark away, if it has one. Takes no memory.
-    pub fn unmark(&mut self, reference: &Ref)
-        ensures marks { self.new ≡ without_mark reference.now self.old }
-        ensures gone { get self.new.marks reference.now ≡ None }
-        ensures unmarked { get self.old.marks reference.now ≡ None → self.new ≡ self.old }
+    /// The marks without those of some references, and then with others put.
+    pub fn amended(
+        &self,
+        alloc: Global,
+        put: Vec<(Ref, u64)>,
+        gone: &[Ref],
+    ) -> Result<Marks, AllocError>
+        ensures { IfOk result (λ m. m ≡ amended text_cmp put.items gone.now self.now) }
     {
-        remove_mark(&mut self.items, reference);
+        let mut next = self.share()?;
+        for reference in gone {
+            next.remove(alloc, reference)?;
+        }
+        for (marked, ticket) in put {
+            next.put(alloc, marked, ticket)?;
+        }
+        Ok(next)
     }
 
-    /// The mark with the least ticket above `after`; none where no mark has such a ticket.
-    pub fn next(&self, after: u64) -> Option<Marked<'_>>
-        ensures { MatchOption result (HasNoneAfter after self.now.marks) (λ m. IsNextAfter after self.now.marks m.reference.now m.ticket) }
+    /// The mark with the least ticket above this one, the first by reference where several have it; none where no mark has
+    /// such a ticket. It looks at no more marks than lie one below the other in a tree of them.
+    pub fn next(&self, after: u64) -> Option<(&Ref, u64)>
+        ensures { option_map (λ e. (e.0.now, e.1)) result ≡ least_above after self.now }
     {
-        next_after(self.items.as_slice(), after)
-    }
-
-    /// Takes the mark of a reference away where its ticket is this one. Otherwise it is late, and changes nothing. Takes no
-    /// memory.
-    pub fn put(&mut self, reference: &Ref, ticket: u64) -> Putting
-        ensures answer { result ≡ put_answer ticket (get self.old.marks reference.now) }
-        ensures marks { self.new ≡ after_put ticket (get self.old.marks reference.now) reference.now self.old }
-    {
-        let mark = self.get(reference);
-        if mark == Some(ticket) {
-            self.unmark(reference);
-            Putting::Counted
-        } else {
-            Putting::Late(mark)
+        self.marks.in_order();
+        self.by_ticket.in_order();
+        let place = self.by_ticket.seek_place(&Above { ticket: after });
+        match self.by_ticket.at(place) {
+            Some(entry) => Some((&entry.0.1, entry.0.0)),
+            None => None,
         }
     }
 }

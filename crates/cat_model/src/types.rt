@@ -1,6 +1,7 @@
 //! What the catalogue is made of, and what it answers. In contracts each of these is the record or the list of its values.
 use crate::rows::IndexedRows;
 use cat_items::items::OfferedItems;
+use cat_marks::marks::Marks;
 use cat_ref::reference::Ref;
 use cat_table::listing::{Copied, Listing};
 use cat_table::map::Map;
@@ -85,8 +86,8 @@ pub struct State {
     pub holders: Map<Ref, u64>,
     pub records: Table<Ref, Record>,
     pub orphans: Table<Ref, Orphan>,
-    pub marks: Table<Ref, u64>,
-    pub documents: Table<Ref, Node>,
+    pub marks: Marks,
+    pub documents: Map<Ref, Node>,
     pub arrival: u64,
     pub number: u64,
     pub token: u64,
@@ -293,8 +294,8 @@ impl Copied for State {
         let holders = self.holders.share()?;
         let records = self.records.duplicate(alloc)?;
         let orphans = self.orphans.duplicate(alloc)?;
-        let marks = self.marks.duplicate(alloc)?;
-        let documents = self.documents.duplicate(alloc)?;
+        let marks = self.marks.share()?;
+        let documents = self.documents.share()?;
         Ok(State {
             providers,
             shelf,

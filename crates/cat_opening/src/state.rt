@@ -7,6 +7,7 @@ ghost use Rattle.cat_table.specs.Table.{get, put, puts, text_cmp};
 
 use crate::rules::MOST_NUMBER;
 use cat_items::items::OfferedItems;
+use cat_marks::marks::Marks;
 use cat_model::rows::IndexedRows;
 use cat_model::types::{Origin, Orphan, OrphanRule, ProviderInputs, Record, Row, State};
 use cat_ref::reference::Ref;
@@ -40,8 +41,8 @@ pub fn empty_state(alloc: Global) -> State
         holders: Map::new(),
         records: Table::new(alloc),
         orphans: Table::new(alloc),
-        marks: Table::new(alloc),
-        documents: Table::new(alloc),
+        marks: Marks::new(),
+        documents: Map::new(),
         arrival: 1,
         number: 1,
         token: 1,
@@ -743,8 +744,8 @@ pub fn state_of(alloc: Global, rows: &[StoredRow]) -> Result<State, AllocError>
         holders: holders_of(alloc, rows)?,
         records: records_of(alloc, &trees, rows)?,
         orphans: orphans_of(alloc, rows)?,
-        marks: Table::new(alloc),
-        documents: Table::new(alloc),
+        marks: Marks::new(),
+        documents: Map::new(),
         arrival: next.arrival,
         number: next.number,
         token: 1,

@@ -9,9 +9,9 @@ use cat_ref::reference::Ref;
 use cat_search::condition::Filter;
 use cat_search::index::Index;
 use cat_search::matches::is_accepted;
+use cat_table::map::Map;
 use cat_tree::tree::Tree;
 use cat_types::node::Node;
-use cat_types::table::Table;
 use std::alloc::{AllocError, Global};
 
 /// All documents, in order of reference. Only `matching` takes memory.
@@ -43,20 +43,20 @@ pub trait Documents {
         ensures { IfOk result (λ v. map pair_seen v.items ≡ matching filters.now (pairs self.entry.now)) };
 }
 
-impl Documents for Table<Ref, Node> {
+impl Documents for Map<Ref, Node> {
     ghost pairs = { λ t. t };
 
     fn len(&self) -> usize {
-        Table::len(self)
+        Map::len(self)
     }
 
     fn at<'a>(&'a self, place: usize) -> Option<(&'a Ref, &'a Tree)> {
-        let (reference, node) = self.as_slice().get(place)?;
+        let (reference, node) = Map::at(self, place)?;
         Some((reference, node.tree()))
     }
 
     fn get<'a>(&'a self, reference: &Ref) -> Option<&'a Tree> {
-        Some(Table::get(self, reference)?.tree())
+        Some(Map::get(self, reference)?.tree())
     }
 
     fn matching<'a>(
@@ -65,7 +65,7 @@ impl Documents for Table<Ref, Node> {
         filters: &[Filter],
     ) -> Result<Vec<(&'a Ref, &'a Tree)>, AllocError> {
         let mut found = Vec::new(alloc);
-        for (reference, node) in self.as_slice() {
+        for (reference, node) in self.iter() {
             if is_accepted(filters, node.tree()) {
                 found.push((reference, node.tree()))?;
             }

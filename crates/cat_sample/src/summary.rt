@@ -9,6 +9,7 @@ use crate::generate::{GROUPS, numbered};
 use cat_model::types::Counts;
 use cat_ref::reference::{Ref, text_at};
 use cat_replies::line::{Piece, push_line};
+use cat_table::map::Map;
 use cat_tree::ask::child;
 use cat_tree::tree::Tree;
 use cat_types::node::Node;
@@ -57,27 +58,30 @@ fn relations_in(document: &Tree) -> u64
 }
 
 // How many relations the documents have, up to the greatest number of 64 bits.
-fn relation_count(documents: &[(Ref, Node)]) -> u64
+fn relation_count(documents: &Map<Ref, Node>) -> u64
     ensures { result ≡ told.relation_count documents.now }
 {
     let mut count = 0u64;
-    let mut left = documents.len();
-    while left > 0 {
-        left -= 1;
-        count = relations_in(documents[left].1.tree()).saturating_add(count);
+    for (_, node) in documents.iter() {
+        count = count.saturating_add(relations_in(node.tree()));
     }
     count
 }
 
 // The document under this text.
-fn document_at<'a>(documents: &'a [(Ref, Node)], name: &str) -> Option<&'a (Ref, Node)>
+fn document_at<'a>(documents: &'a Map<Ref, Node>, name: &str) -> Option<&'a (Ref, Node)>
     ensures { option_map (λ e. e.now) result ≡ told.document_at name.now documents.now }
 {
-    documents.iter().find(|entry| entry.0.as_str() == name)
+    for entry in documents.iter() {
+        if entry.0.as_str() == name {
+            return Some(entry);
+        }
+    }
+    None
 }
 
 // How much a Group owns.
-fn owned(documents: &[(Ref, Node)], name: &str) -> u64
+fn owned(documents: &Map<Ref, Node>, name: &str) -> u64
     ensures { result ≡ told.owned_in (told.document_at name.now documents.now) }
 {
     match document_at(documents, name) {
@@ -90,7 +94,7 @@ fn owned(documents: &[(Ref, Node)], name: &str) -> u64
 fn push_owned(
     alloc: Global,
     pieces: &mut Vec<Piece<'_>>,
-    documents: &[(Ref, Node)],
+    documents: &Map<Ref, Node>,
 ) -> Result<(), AllocError>
     ensures { OnOk result (map piece_text pieces.new.items ≡ map piece_text pieces.old.items ++ told.owned_texts documents.now 0 10) }
 {
@@ -138,7 +142,7 @@ pub(crate) fn summary(
     alloc: Global,
     count: u64,
     settled: Counts,
-    documents: &[(Ref, Node)],
+    documents: &Map<Ref, Node>,
 ) -> Result<Vec<u8>, AllocError>
     ensures { IfOk result (λ text. text.items ≡ told.summary count settled documents.now) }
 {

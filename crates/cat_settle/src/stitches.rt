@@ -12,28 +12,28 @@ use cat_events::done::Stitched;
 use cat_events::stitch::put_stitch;
 use cat_hold::layers::Layers;
 use cat_links::links::Links;
+use cat_marks::marks::Marks;
 use cat_model::types::{Progress, Settings, StitchOrder};
 use cat_ref::reference::Ref;
 use cat_table::listing::{Copied, Listing};
-use cat_types::table::Table;
 use std::alloc::{AllocError, Global};
 
 // Copies of the marks.
-fn copied(alloc: Global, marks: &[(Ref, u64)]) -> Result<Vec<(Ref, u64)>, AllocError>
+fn copied(alloc: Global, marks: &Marks) -> Result<Vec<(Ref, u64)>, AllocError>
     ensures { IfOk result (λ l. l.items ≡ marks.now) }
 {
     let mut made = Vec::new(alloc);
-    for (reference, ticket) in marks {
+    for (reference, ticket) in marks.iter() {
         made.push((reference.duplicate(alloc)?, *ticket))?;
     }
     Ok(made)
 }
 
 // The marks in order of ticket.
-fn sorted_marks(alloc: Global, marks: &Table<Ref, u64>) -> Result<Vec<(Ref, u64)>, AllocError>
+fn sorted_marks(alloc: Global, marks: &Marks) -> Result<Vec<(Ref, u64)>, AllocError>
     ensures { IfOk result (λ l. l.items ≡ marks_in_order marks.now) }
 {
-    let mut made = copied(alloc, marks.as_slice())?;
+    let mut made = copied(alloc, marks)?;
     made.sort_by_key(|mark| mark.1)?;
     Ok(made)
 }
@@ -50,7 +50,7 @@ fn refs_of(alloc: Global, marks: Vec<(Ref, u64)>) -> Result<Listing<Ref>, AllocE
 }
 
 // The marked references in order of ticket.
-fn marked_refs(alloc: Global, marks: &Table<Ref, u64>) -> Result<Listing<Ref>, AllocError>
+fn marked_refs(alloc: Global, marks: &Marks) -> Result<Listing<Ref>, AllocError>
     ensures { IfOk result (λ l. l ≡ by_ticket marks.now) }
 {
     let sorted = sorted_marks(alloc, marks)?;

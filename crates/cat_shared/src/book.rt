@@ -1,5 +1,5 @@
 //! A catalogue with a journal.
-ghost use Rattle.std.specs.Prelude.{◌≡◌, ◌≢◌, ◌⊎◌, ◌++◌, ◌+◌, ◌-◌, ◌^◌, ◌≤◌, List, ℕ, Some, [], length, min};
+ghost use Rattle.std.specs.Prelude.{◌≡◌, ◌≢◌, ◌⊎◌, ◌++◌, ◌+◌, ◌-◌, ◌^◌, ◌≤◌, List, ℕ, Some, [], IfOk, length, min};
 ghost use Rattle.std.specs.Coded.{Coded-set, coded_option};
 ghost use Rattle.cat_desk.specs.Asks.{AsksOnce};
 ghost use Rattle.cat_desk.specs.Deed.{deed_of};
@@ -23,7 +23,10 @@ use cat_fed::desk::FeedAnswer;
 use cat_feed::change::Since;
 use cat_hold::layers::Layers;
 use cat_query::ask::Ask;
-use std::alloc::Global;
+use cat_ref::reference::Ref;
+use cat_table::map::Map;
+use cat_types::node::Node;
+use std::alloc::{AllocError, Global};
 use std::marker::{Brand, PhantomData};
 
 /// With what a book began. Each sharing picks it.
@@ -144,6 +147,13 @@ impl<L: Layers, B: TimedDesk<L>, N: Named> Book<L, B, N> {
         ensures journal { self.new.journal.items ≡ self.old.journal.items }
     {
         self.desk.ask_at(alloc, ask, out)
+    }
+
+    /// A copy of the documents, which shares them. It takes no memory.
+    pub fn documents(&self) -> Result<Map<Ref, Node>, AllocError>
+        ensures { IfOk result (λ m. m ≡ (B.ledger self.now.desk).state.documents) }
+    {
+        self.desk.catalogue().docs().share()
     }
 
     /// Answers what changed since a place. Only what is answered `Written` changes `out`, by appending the text.

@@ -1,13 +1,15 @@
 //! A desk over a book that others have too.
-ghost use Rattle.std.specs.Prelude.{◌≡◌, ◌≢◌, ◌++◌, List, ℕ};
+ghost use Rattle.std.specs.Prelude.{◌≡◌, ◌≢◌, ◌++◌, List, ℕ, true};
 ghost use Rattle.cat_desk.specs.Deed.{deed_of};
+ghost use Rattle.cat_desk.specs.Shown.{is_shown};
 ghost use Rattle.cat_shared.specs.Shared.{SharedActs, SharedAsks, SharedTells};
 
 use crate::book::{Book, Named};
 use crate::timed::TimedDesk;
 use crate::work::at_turn;
-use crate::works::{Acting, Asking, Telling};
+use crate::works::{Acting, Asking, Copying, Telling};
 use cat_core::catalogue::{Done, Stitched};
+use cat_desk::asks::{is_shown, write_shown};
 use cat_desk::command::{Asked, Command, Reply};
 use cat_desk::desk::Desk;
 use cat_fed::desk::{FeedAnswer, FeedDesk};
@@ -53,6 +55,18 @@ impl<'a, L: Layers, B: TimedDesk<L>, N: Named, R: Wait> SharedDesk<'a, L, B, N, 
         pass
     }
 
+    // Takes a copy of the documents at its turn, and answers from it after the turn.
+    fn show(&mut self, alloc: Global, ask: &Ask, out: &mut Vec<u8>) -> Asked
+        requires { is_shown ask.now ≡ true }
+        ensures answer { (text : List ℕ) × (out.new.items ≡ out.old.items ++ text) × SharedAsks L.rules N.settings N.opening ask.now self.old.pass self.new.pass result text }
+        ensures same { result ≢ Asked.Written → out.new.items ≡ out.old.items }
+    {
+        match at_turn(self.rt, self.turns, &mut self.pass, Copying) {
+            Ok(documents) => write_shown(alloc, &documents, ask, out),
+            Err(_) => Asked::NoMemory,
+        }
+    }
+
     /// The number under which its entries stand in the journal.
     pub fn number(&self) -> u64
         ensures { result ≡ self.now.pass.number }
@@ -86,6 +100,9 @@ impl<'a, 'b, L: Layers, B: TimedDesk<L>, N: Named, R: Wait> Desk<Done<'b, L>, St
         ensures answer { (text : List ℕ) × (out.new.items ≡ out.old.items ++ text) × SharedAsks L.rules N.settings N.opening ask.now self.old.pass self.new.pass result text }
         ensures same { result ≢ Asked.Written → out.new.items ≡ out.old.items }
     {
+        if is_shown(ask) {
+            return self.show(alloc, ask, out);
+        }
         let asking = Asking {
             alloc,
             ask,

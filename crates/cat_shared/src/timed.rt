@@ -10,7 +10,7 @@ ghost use Rattle.cat_io.specs.Causes.{Rose};
 ghost use Rattle.cat_io.specs.Clock.{CountsReading};
 ghost use Rattle.cat_kept_desk.specs.Deeds.{IsUnkept};
 
-use cat_core::catalogue::{Done, Stitched};
+use cat_core::catalogue::{Catalogue, Done, Stitched};
 use cat_core::fault::CoreFault;
 use cat_desk::command::{Asked, Command, Reply};
 use cat_desk::desk::Desk;
@@ -59,6 +59,10 @@ pub trait TimedDesk<L: Layers> {
         ensures later { faults self.old ≤ faults self.new }
         ensures cause { result.1 ≡ Reply.Refused CoreFault.Keeper → Rose (faults self.old) (faults self.new) };
 
+    /// Lends the catalogue.
+    fn catalogue(&self) -> &Catalogue<L>
+        ensures { result.now ≡ ledger self.now };
+
     /// Answers a question. Only what is answered `Written` changes `out`, by appending the answer.
     fn ask_at(&mut self, alloc: Global, ask: &Ask, out: &mut Vec<u8>) -> Asked
         ensures answer { (text : List ℕ) × (out.new.items ≡ out.old.items ++ text)
@@ -103,6 +107,10 @@ impl<L: Layers, C: Clock> TimedDesk<L> for Fed<L, C> {
         self.act_at(alloc, command)
     }
 
+    fn catalogue(&self) -> &Catalogue<L> {
+        self.timed().catalogue()
+    }
+
     fn ask_at(&mut self, alloc: Global, ask: &Ask, out: &mut Vec<u8>) -> Asked {
         <Fed<L, C> as Desk<Done<'_, L>, Stitched<'_, L>>>::ask(self, alloc, ask, out)
     }
@@ -137,6 +145,10 @@ impl<L: Layers, C: Clock, K: Keeper> TimedDesk<L> for KeptDesk<L, C, K> {
         command: &Command<Done<'_, L>, Stitched<'_, L>>,
     ) -> (u64, Reply) {
         self.act_at(alloc, command)
+    }
+
+    fn catalogue(&self) -> &Catalogue<L> {
+        KeptDesk::catalogue(self)
     }
 
     fn ask_at(&mut self, alloc: Global, ask: &Ask, out: &mut Vec<u8>) -> Asked {

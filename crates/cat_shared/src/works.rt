@@ -1,5 +1,5 @@
 //! What a share of a book does at its turn.
-ghost use Rattle.std.specs.Prelude.{◌≡◌, ◌≢◌, ◌⊎◌, ◌++◌, List, ℕ};
+ghost use Rattle.std.specs.Prelude.{◌≡◌, ◌≢◌, ◌⊎◌, ◌++◌, IfOk, List, ℕ};
 ghost use Rattle.cat_desk.specs.Asks.{AsksOnce};
 ghost use Rattle.cat_desk.specs.Deed.{deed_of};
 ghost use Rattle.cat_desk.specs.declared.command.Asked.TheVariants as asked;
@@ -16,7 +16,10 @@ use cat_fed::desk::FeedAnswer;
 use cat_feed::change::Since;
 use cat_hold::layers::Layers;
 use cat_query::ask::Ask;
-use std::alloc::Global;
+use cat_ref::reference::Ref;
+use cat_table::map::Map;
+use cat_types::node::Node;
+use std::alloc::{AllocError, Global};
 
 /// A command is done under the number of a pass.
 #[derive(Drop)]
@@ -56,6 +59,20 @@ impl<'c, L: Layers, B: TimedDesk<L>, N: Named> Work<Book<L, B, N>> for Asking<'c
         let mut out = self.out;
         let asked = book.ask(self.alloc, self.ask, &mut out);
         (asked, out)
+    }
+}
+
+/// A copy of the documents is taken.
+#[derive(Drop)]
+pub(crate) struct Copying;
+
+impl<L: Layers, B: TimedDesk<L>, N: Named> Work<Book<L, B, N>> for Copying {
+    type Answer = Result<Map<Ref, Node>, AllocError>;
+
+    ghost does = { λ work before after answer. IfOk answer (λ m. m ≡ (B.ledger before.desk).state.documents) × (after.journal.items ≡ before.journal.items) };
+
+    fn on(self, book: &mut Book<L, B, N>) -> Result<Map<Ref, Node>, AllocError> {
+        book.documents()
     }
 }
 

@@ -12,4 +12,4 @@ returns-in_ok-put g c =
     stitch_comes g.L.Layers.rules c.args.settings.now c.args.stitched.now.order.now m c.args.links.now c.put.new.self c.remove.new.self
     (ap (is_present_stitch g.L.Layers.rules m) (sym same) ∙ (sym c.in_ok-present_stitch.ensures ∙ c.if-branch.true)) c.requires
     (c.in_ok-put.ensures ∙ (λ i. put text_cmp ((c.in_ok-reference.ensures ∙ ap (λ o. o.reference) same) i) ((c.in_ok-document.ensures ∙ c.document.ensures) i) m.documents))
-    (c.remove.ensures ∙ ap (λ o. without text_cmp o.reference m.marks) same)
+    (c.in_ok-remove.ensures ∙ (λ i. without text_cmp (ap (λ o. o.reference) same i) (c.in_ok-marks.ensures i)))

@@ -1,5 +1,6 @@
 use Rattle.std.proofs.Common.{◌≡◌, ◌++◌}
 use Rattle.cat_table.specs.Left.{items_left}
+use Rattle.cat_feed.specs.Rest.{left}
 use Rattle.cat_feed.specs.Walk.{walked}
 use Rattle.cat_feed.proofs.differences.differences.Given as goal
 
@@ -8,4 +9,4 @@ abbrev pub invariant-loop-reference : goal.invariant-loop-reference
 invariant-loop-reference l =
     goal.iterator-loop-reference.can_next l.reference-iterator
     × goal.iterator-loop-reference.is_finite l.reference-iterator
-    × (l.found.items ++ walked (items_left l.reference-iterator) l.rest ≡ walked l.copy l.documents)
+    × (l.found.items ++ walked (items_left l.reference-iterator) (left l.rest) ≡ walked l.copy l.documents)

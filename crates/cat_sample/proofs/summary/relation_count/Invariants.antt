@@ -1,10 +1,12 @@
-use Rattle.std.proofs.Common.{◌≡◌, ◌≤◌, length, drop}
-use Rattle.cat_sample.specs.Summary.{relation_count}
+use Rattle.std.proofs.Common.{◌≡◌, ◌+◌, ◌<◌, ◌^◌}
+use Rattle.cat_table.specs.Left.{items_left}
+use Rattle.cat_sample.specs.Summary.{capped, relation_count}
 use Rattle.cat_sample.proofs.summary.relation_count.Given as goal
 
--- those of the documents from the place on were counted
-abbrev pub invariant-loop-left : goal.invariant-loop-left
-invariant-loop-left l = (l.left ≤ length l.documents) × (l.count ≡ relation_count (drop l.left l.documents))
-
-abbrev pub decreases-loop-left : goal.decreases-loop-left
-decreases-loop-left l = l.left
+-- the count, with those of the documents that are left, comes to that of all
+abbrev pub invariant-loop-node : goal.invariant-loop-node
+invariant-loop-node l =
+    goal.iterator-loop-node.can_next l.node-iterator
+    × goal.iterator-loop-node.is_finite l.node-iterator
+    × (l.count < 2 ^ 64)
+    × (capped (l.count + relation_count (items_left l.node-iterator)) ≡ relation_count l.documents)

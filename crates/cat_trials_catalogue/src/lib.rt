@@ -1,0 +1,16 @@
+//! Tests of the crates that stand on the abstract catalogue and on nothing that speaks to others: texts of replies, candidates, samples,
+//! and whole catalogues over the real layers.
+//!
+//! Most modules have the tests of one crate, by its public calls. `afresh` has documents beside those that the plain program computes from
+//! scratch. It stands on those crates and on what their answers are made of, has no code of its own but what tests need, and promises
+//! nothing.
+#![tactic(auto)]
+
+#[cfg(test)]
+mod afresh;
+#[cfg(test)]
+mod opening;
+#[cfg(test)]
+mod replies;
+#[cfg(test)]
+mod sample;

@@ -1,0 +1,31 @@
+//! A store that a keeper in memory has.
+use crate::kept_rows::{FIRST, Row, SECOND, batch_of, gives};
+use cat_ends::Status;
+use cat_io::{MemorySink, MemorySource};
+use cat_keeper::keeper::Place;
+use cat_keeper::memory::MemoryKeeper;
+use cat_keeper::rows::apply;
+use cat_stored::run_stored;
+use cat_table::map::Map;
+use std::test::Fail;
+
+#[test]
+fn a_store_is_brought_over_or_stays(rt: HostRuntime) -> Result<(), Fail> {
+    let alloc = rt.alloc();
+    // The call of the keeper that fails, the status, and the rows that are there afterwards.
+    let cases: [(u64, u8, &[Row]); 3] = [(1, 5, &FIRST), (2, 5, &FIRST), (9, 0, &SECOND)];
+    for (failing, status, rows) in cases.iter() {
+        let first = apply(alloc, &Map::new(), &batch_of(alloc, &FIRST)?)?;
+        let keeper = MemoryKeeper::new(first, vec![in alloc; *failing]?);
+        let mut source = MemorySource::new(Vec::new(alloc), 1_000, Vec::new(alloc));
+        let mut sink = MemorySink::new(1_000, Vec::new(alloc));
+        let ran = run_stored(alloc, None, Place::Nowhere, keeper, &mut source, &mut sink);
+        assert_eq!(rt; ran.status, Status(*status));
+        let mut keeper = ran.keeper;
+        assert!(rt;
+            gives(alloc, &mut keeper, rows),
+            "where call {failing} fails"
+        );
+    }
+    Ok(())
+}
