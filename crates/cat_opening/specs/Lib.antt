@@ -1,5 +1,4 @@
 pub mod Start
-pub mod Named
 pub mod Read
 pub mod Standing
 pub mod Candidate

@@ -16,7 +16,7 @@ use cat_types::work::Output;
 use std::alloc::{AllocError, Global};
 
 /// The greatest serial.
-pub const MOST_SERIAL: u64 = (1 << 53) - 1;
+const MOST_SERIAL: u64 = (1 << 53) - 1;
 
 fn is_numbered(inputs: &ProviderInputs) -> bool
     ensures { result ≡ spec.is_numbered inputs.now }

@@ -5,7 +5,6 @@ ghost use Rattle.cat_model.specs.Step.{start};
 ghost use Rattle.cat_opening.specs.Standing as spec;
 ghost use Rattle.cat_table.specs.Table.{get, put, puts, text_cmp};
 
-use crate::rules::MOST_NUMBER;
 use cat_items::items::OfferedItems;
 use cat_marks::marks::Marks;
 use cat_model::rows::IndexedRows;
@@ -634,6 +633,9 @@ fn orphans_of(alloc: Global, rows: &[StoredRow]) -> Result<Table<Ref, Orphan>, A
     }
     Ok(made)
 }
+
+// The greatest next number of a counter.
+const MOST_NUMBER: u64 = 1 << 59;
 
 // A number in the bounds of the counters; 1 in place of another one.
 fn bounded(number: u64) -> u64

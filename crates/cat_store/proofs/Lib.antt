@@ -6,3 +6,4 @@ pub mod Told
 pub mod Unstored
 pub mod Passes
 pub mod Accepting
+pub mod Naming

@@ -4,9 +4,10 @@
 //! differ are written. A commit is one batch; where it is refused the rows are as before. A store is opened by reading its rows
 //! (cat_opening), testing what was read (cat_sound), and comparing the rows of that state with those that were read (cat_tables), so
 //! that nobody has to believe the reading. Whether the state is in order, with numbers of 64 bits alone, is tested beside, so that what
-//! its rows tell of it (cat_reopened) can be applied to whatever opens.
+//! its rows tell of it (cat_reopened) can be applied to whatever opens. A store that doesn't open is refused by the name of its first row at
+//! fault (cat_breaches).
 //!
-//! It stands on cat_keeper for keepers, and on the three crates named. It carries the promise that a keeper which tells its tables
+//! It stands on cat_keeper for keepers, and on the crates named. It carries the promise that a keeper which tells its tables
 //! holds those of the state that was last followed, and that a store of either version opens as a state whose rows it has, which those
 //! rows tell, and which opens again as itself.
 #![tactic(auto)]

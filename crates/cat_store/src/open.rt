@@ -1,6 +1,7 @@
 //! Opening a store.
-ghost use Rattle.std.specs.Prelude.{◌≡◌, ◌≢◌, ◌↔◌, ◌≤◌, ◌&&◌, IsTrue, false, true, IfErr, IfOk, IfSome, Option, nat_le, option_map};
+ghost use Rattle.std.specs.Prelude.{◌≡◌, ◌≢◌, ◌↔◌, ◌≤◌, ◌&&◌, ◌⊎◌, IsTrue, false, true, IfErr, IfOk, IfSome, MatchOption, Option, nat_le, option_map};
 ghost use Rattle.std.specs.declared.option.Option.TheVariants.{None, Some};
+ghost use Rattle.cat_breaches.specs.First.{IsVerdict};
 ghost use Rattle.cat_events.specs.Coming.{IsSteady};
 ghost use Rattle.cat_io.specs.Causes.{Rose};
 ghost use Rattle.cat_keeper.specs.Answers.{Are, Stays};
@@ -11,13 +12,15 @@ ghost use Rattle.cat_opening.specs.Forms.{has_forms};
 ghost use Rattle.cat_reopened.specs.Right.{AreOfNone};
 ghost use Rattle.cat_sound.specs.Candidate.{is_candidate};
 ghost use Rattle.cat_store.specs.Opened.{HasRule, IsRead, is_first, is_of_first, is_row_of_first, rows_in};
-ghost use Rattle.cat_store.specs.Refused.{IsRefused};
+ghost use Rattle.cat_store.specs.Refused.{AreTheirs, IsDifference, IsDiffering, IsNamed, IsRefused};
 ghost use Rattle.cat_store.specs.Tells.{is_telling};
 ghost use Rattle.cat_tables.specs.Stored.{stored, texts_of};
 ghost use Rattle.cat_tables.specs.Told.{AreFirstNarrow, IsTold};
 
 use crate::store::{Store, commit};
 use crate::tells::is_telling;
+use cat_breaches::difference::{first_difference, is_same_row};
+use cat_breaches::first::wrong_row;
 use cat_hold::layers::Layers;
 use cat_keeper::keeper::{Committed, Keeper, Loaded, Place};
 use cat_keeper::rows::{Batch, StoredRows};
@@ -26,10 +29,7 @@ use cat_links::links::Links;
 use cat_model::types::{OrphanRule, State};
 use cat_opening::candidate::candidate;
 use cat_opening::forms::has_forms;
-use cat_opening::types::OpenFault as Unread;
-use cat_opening::wrong::wrong_row;
 use cat_sound::reopen::{Opening, opened};
-use cat_table::listing::Copied;
 use cat_tables::batch::batch_to;
 use cat_tables::first::first_rows;
 use cat_tables::stored::{Stored, stored_rows};
@@ -121,6 +121,19 @@ fn stored_rule(is_first: bool, found: OrphanRule) -> OrphanRule
     if is_first { OrphanRule::Keep } else { found }
 }
 
+// The texts of the rows of a state, in the version that these rows are of.
+fn texts_like(
+    alloc: Global,
+    rows: &StoredRows,
+    orphans: OrphanRule,
+    state: &State,
+) -> Result<StoredRows, AllocError>
+    ensures { IfOk result (λ told. told ≡ texts_of (rows_in (is_first rows.now) orphans state.now)) }
+{
+    let wanted = rows_in(alloc, is_first(rows), orphans, state)?;
+    texts(alloc, &wanted)
+}
+
 // Whether the rows are those of a state, in the version that they are of.
 fn are_rows_of(
     alloc: Global,
@@ -131,16 +144,7 @@ fn are_rows_of(
     ensures rows { IfOk result (λ b. b ≡ true → texts_of (rows_in (is_first rows.now) orphans state.now) ≡ rows.now) }
     ensures differ { IfOk result (λ b. b ≡ false → texts_of (rows_in (is_first rows.now) orphans state.now) ≢ rows.now) }
 {
-    let wanted = rows_in(alloc, is_first(rows), orphans, state)?;
-    are_texts_of(alloc, rows, &wanted)
-}
-
-// Whether these are the texts of rows.
-fn are_texts_of(alloc: Global, rows: &StoredRows, wanted: &Stored) -> Result<bool, AllocError>
-    ensures rows { IfOk result (λ b. b ≡ true → texts_of wanted.now ≡ rows.now) }
-    ensures differ { IfOk result (λ b. b ≡ false → texts_of wanted.now ≢ rows.now) }
-{
-    let told = texts(alloc, wanted)?;
+    let told = texts_like(alloc, rows, orphans, state)?;
     Ok(are_same(&told, rows))
 }
 
@@ -161,15 +165,6 @@ fn are_same(left: &StoredRows, right: &StoredRows) -> bool
         }
     }
     others.next().is_none()
-}
-
-// Whether two rows are one.
-fn is_same_row(left: &((Table, Text), Text), right: &((Table, Text), Text)) -> bool
-    ensures { IsTrue result ↔ (left.now ≡ right.now) }
-{
-    left.0.0 == right.0.0
-        && left.0.1.as_str() == right.0.1.as_str()
-        && left.1.as_str() == right.1.as_str()
 }
 
 // What was opened, where its rows tell its state.
@@ -296,33 +291,45 @@ fn read<L: Layers>(
     }))
 }
 
-// The first row in which the rows of a store differ from those of the state that they stand for; the first counter where none does.
-fn differing(alloc: Global, rows: &StoredRows) -> Result<Unread, AllocError> {
-    if let Some(candidate) = candidate(alloc, rows)? {
-        let wanted = rows_in(alloc, is_first(rows), candidate.rule, &candidate.state)?;
-        let batch = batch_to(alloc, rows, &wanted)?;
-        if let Some(((table, key), _)) = batch.at(0) {
-            return Ok(Unread::Row(*table, key.duplicate(alloc)?));
-        }
-    }
-    Ok(Unread::Row(Table::Counters, Text::of(alloc, "arrival")?))
+// The first row by which the rows of a store differ from those of the state that they stand for; none where they are just those, or stand for none.
+fn difference(alloc: Global, rows: &StoredRows) -> Result<Option<(Table, Text)>, AllocError>
+    ensures { IfOk result (λ key. MatchOption key (AreTheirs rows.now) (IsDifference rows.now)) }
+{
+    let Some(found) = candidate(alloc, rows)? else {
+        return Ok(None);
+    };
+    let told = texts_like(alloc, rows, found.rule, &found.state)?;
+    first_difference(alloc, rows, &told)
 }
 
-// The wrong row of a store that can't be opened.
-fn wrong(alloc: Global, rows: &StoredRows, input_limit: u64) -> Result<Unread, AllocError> {
+// That row, or the first counter where there is none.
+fn differing(alloc: Global, rows: &StoredRows) -> Result<(Table, Text), AllocError>
+    ensures { IfOk result (IsDiffering rows.now) }
+{
+    match difference(alloc, rows)? {
+        Some(key) => Ok(key),
+        None => Ok((Table::Counters, Text::of(alloc, "arrival")?)),
+    }
+}
+
+// The row that a store which can't be opened is refused by: the first at fault, or else the first that differs.
+fn wrong(alloc: Global, rows: &StoredRows, input_limit: u64) -> Result<(Table, Text), AllocError>
+    ensures { IfOk result (λ key. IsVerdict rows.now input_limit (Some key) ⊎ (IsVerdict rows.now input_limit None × IsDiffering rows.now key)) }
+{
     match wrong_row(alloc, rows, input_limit)? {
-        Some(fault) => Ok(fault),
+        Some(key) => Ok(key),
         None => differing(alloc, rows),
     }
 }
 
 // The refusal of a store that can't be opened.
 fn refusal(alloc: Global, rows: &StoredRows, input_limit: u64) -> OpenFault
-    ensures { result ≢ OpenFault.Keeper }
+    ensures keeper { result ≢ OpenFault.Keeper }
+    ensures named { IsNamed input_limit rows.now result }
 {
     match wrong(alloc, rows, input_limit) {
-        Ok(Unread::Row(table, key)) => OpenFault::Row(table, key),
-        Ok(Unread::NoMemory) | Err(_) => OpenFault::NoMemory,
+        Ok((table, key)) => OpenFault::Row(table, key),
+        Err(_) => OpenFault::NoMemory,
     }
 }
 
@@ -332,7 +339,9 @@ fn refusal(alloc: Global, rows: &StoredRows, input_limit: u64) -> OpenFault
 /// The state is one that its rows tell, in either version, and opens again as itself.
 ///
 /// A row is refused only where the store has the rows of no state that opens: a store that has those of a sound catalogue in either version,
-/// within its limits, opens. `Keeper` comes only where the keeper's count of faults rose in this call. After an error the keeper's tables are
+/// within its limits, opens. The row is the first, in order of table and key, that has no reading, breaks a rule of stores or passes the limit
+/// on input bytes, or one that is missing, in the place where it would stand. Where none is, it is the first by which the rows differ from those of the state
+/// that they stand for, or the row of the arrivals' counter. `Keeper` comes only where the keeper's count of faults rose in this call. After an error the keeper's tables are
 /// as before.
 pub fn open<L: Layers, K: Keeper>(
     alloc: Global,
@@ -358,6 +367,7 @@ pub fn open<L: Layers, K: Keeper>(
     ensures later_still { IfErr result (λ e. K.faults keeper ≤ K.faults e.1) }
     ensures cause { IfErr result (λ e. e.0 ≡ OpenFault.Keeper → Rose (K.faults keeper) (K.faults e.1)) }
     ensures opens { IfErr result (λ e. IfSome (K.tables place keeper) (λ rows. IsRefused L.rules input_limit rows e.0)) }
+    ensures named { IfErr result (λ e. IfSome (K.tables place keeper) (λ rows. IsNamed input_limit rows e.0)) }
 {
     let mut keeper = keeper;
     let rows = match keeper.load(alloc, &place) {

@@ -19,6 +19,8 @@ use Rattle.cat_model.specs.declared.types.State.{State}
 use Rattle.cat_reopened.specs.Right.{AreOfNone}
 use Rattle.cat_reopened.specs.Told.{OpensAs}
 use Rattle.cat_store.specs.Opened.{HasRule, IsRead}
+use Rattle.cat_store.specs.Refused.{IsNamed}
+use Rattle.cat_store.specs.declared.open.OpenFault.TheVariants.{Row}
 use Rattle.cat_table.specs.Table.{Text}
 use Rattle.cat_tables.specs.Stored.{stored, texts_of}
 use Rattle.cat_feed.specs.Feed.{begun}
@@ -82,11 +84,18 @@ pub record HasKeptWire (place : Place) (rule : Option OrphanRule) (before : Opti
 abbrev pub refused_store : Table → Text → List ℕ
 refused_store table key = codes "refused store " ++ (table_name table ++ (32 ∷ (key ++ 10 ∷ [])))
 
--- A store was refused: its line was written whole, or the sink failed in it.
-abbrev pub IsRefused : Option (List ℕ) → Option (List ℕ) → ℕ → ℕ → Type 0
-IsRefused written written' faults faults' =
-    (table : Table) × (key : Text) × (Appends written written' (refused_store table key)
-    ⊎ (AppendsFront written written' (refused_store table key) × Rose faults faults'))
+-- the line that names a row was written whole, or the sink failed in it
+abbrev pub IsLineOf : Table → Text → Option (List ℕ) → Option (List ℕ) → ℕ → ℕ → Type 0
+IsLineOf table key written written' faults faults' =
+    Appends written written' (refused_store table key)
+    ⊎ (AppendsFront written written' (refused_store table key) × Rose faults faults')
+
+-- A store was refused of which a keeper told these rows, if it told any: the line that names a row was written whole, or the sink failed in it, and the row is
+-- the first at fault among the rows, or none is.
+abbrev pub IsRefused : Option Rows → Option (List ℕ) → Option (List ℕ) → ℕ → ℕ → Type 0
+IsRefused told written written' faults faults' =
+    (table : Table) × (key : Text) × IfSome told (λ rows. IsNamed (program_settings Keep).input_limit rows (Row table key))
+    × IsLineOf table key written written' faults faults'
 
 -- The rows that a keeper told, if it told any, are those of no state that opens: of none that is sound, in its bounds and forms, and within the program's
 -- limit, in either version.

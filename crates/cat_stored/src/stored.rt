@@ -11,10 +11,10 @@ ghost use Rattle.cat_keeper.specs.Store.{Rows};
 ghost use Rattle.cat_layers.specs.Layered.{layered};
 ghost use Rattle.cat_model.specs.Sound.{AreBegun};
 ghost use Rattle.cat_model.specs.declared.types.OrphanRule.TheVariants.{Keep};
-ghost use Rattle.cat_store.specs.Refused.{IsRefused as MayRefuse};
+ghost use Rattle.cat_store.specs.Refused.{IsNamed, IsRefused as MayRefuse};
 ghost use Rattle.cat_tables.specs.Stored.{stored, texts_of};
 ghost use Rattle.cat_transcript.specs.Program.{program_settings};
-ghost use Rattle.cat_stored.specs.Stores.{HasKept, HasKeptWire, IsRefused, IsUnopenable, refused_store, session_over};
+ghost use Rattle.cat_stored.specs.Stores.{HasKept, HasKeptWire, IsLineOf, IsRefused, IsUnopenable, refused_store, session_over};
 
 use cat_api::service::Service;
 use cat_core::catalogue::Catalogue;
@@ -55,7 +55,7 @@ fn refusal(alloc: Global, table: Table, key: &str) -> Result<Vec<u8>, AllocError
 
 // Says which row of a store is refused. The status is 6, whether the sink failed or not, or 9 where memory lacked for the line.
 fn refuse<O: Sink>(alloc: Global, table: Table, key: &str, sink: &mut O) -> Status
-    ensures refused { result.0 ≡ 6 → IsRefused (O.written sink.old) (O.written sink.new) (O.faults sink.old) (O.faults sink.new) }
+    ensures refused { result.0 ≡ 6 → IsLineOf table key.now (O.written sink.old) (O.written sink.new) (O.faults sink.old) (O.faults sink.new) }
     ensures memory { result.0 ≡ 9 → sink.new ≡ sink.old }
     ensures later { O.faults sink.old ≤ O.faults sink.new }
     ensures ended { (result.0 ≡ 6) ⊎ (result.0 ≡ 9) }
@@ -113,7 +113,8 @@ fn service_of<'a, K: Keeper>(alloc: Global, opened: Opened<K>) -> KeptService<'a
 /// Why a store can't be opened, as a status, with the line that names a row: 5 where the keeper failed, 6 where a row is named, and 9 for want of
 /// memory. Nothing else is written.
 pub fn unopened<O: Sink>(alloc: Global, fault: &OpenFault, sink: &mut O) -> Status
-    ensures refused { result.0 ≡ 6 → IsRefused (O.written sink.old) (O.written sink.new) (O.faults sink.old) (O.faults sink.new) }
+    ensures refused { result.0 ≡ 6 → (told : Option Rows) → IfSome told (λ rows. IsNamed (program_settings Keep).input_limit rows fault.now)
+        → IsRefused told (O.written sink.old) (O.written sink.new) (O.faults sink.old) (O.faults sink.new) }
     ensures unopenable { result.0 ≡ 6 → (told : Option Rows) → IfSome told (λ rows. MayRefuse layered (program_settings Keep).input_limit rows fault.now) → IsUnopenable told }
     ensures keeper { result.0 ≡ 5 → fault.now ≡ OpenFault.Keeper }
     ensures unwritten { result.0 ≢ 6 → sink.new ≡ sink.old }
@@ -129,7 +130,7 @@ pub fn unopened<O: Sink>(alloc: Global, fault: &OpenFault, sink: &mut O) -> Stat
 
 /// Answers the lines of the source over the catalogue that the keeper has at a place, under this rule for orphans, or
 /// else under the stored one. The status is 5 where the keeper failed as the store was opened, and 6 where a row of the store has no reading
-/// or breaks a rule; the line `refused store TABLE KEY` names it. It comes only where the rows are those of no state that opens.
+/// or breaks a rule; the line `refused store TABLE KEY` names the first such row. It comes only where the rows are those of no state that opens.
 pub fn run_stored<S: Source, O: Sink, K: Keeper>(
     alloc: Global,
     orphans: Option<OrphanRule>,
@@ -144,7 +145,7 @@ pub fn run_stored<S: Source, O: Sink, K: Keeper>(
     ensures unread { (result.status.0 ≡ 5) ⊎ (result.status.0 ≡ 6) → source.new ≡ source.old }
     ensures same { (result.status.0 ≡ 5) ⊎ (result.status.0 ≡ 6) → Stays (K.tables place keeper) (K.tables place result.keeper) }
     ensures keeper_fault { result.status.0 ≡ 5 → Rose (K.faults keeper) (K.faults result.keeper) }
-    ensures refused { result.status.0 ≡ 6 → IsRefused (O.written sink.old) (O.written sink.new) (O.faults sink.old) (O.faults sink.new) }
+    ensures refused { result.status.0 ≡ 6 → IsRefused (K.tables place keeper) (O.written sink.old) (O.written sink.new) (O.faults sink.old) (O.faults sink.new) }
     ensures unopenable { result.status.0 ≡ 6 → IsUnopenable (K.tables place keeper) }
     ensures read_fault { result.status.0 ≡ 3 → Rose (S.faults source.old) (S.faults source.new) }
     ensures write_fault { result.status.0 ≡ 4 → Rose (O.faults sink.old) (O.faults sink.new) }
@@ -182,7 +183,7 @@ pub fn run_stored_connection<S: Source, O: Sink, K: Keeper>(
     ensures unread { (result.status.0 ≡ 5) ⊎ (result.status.0 ≡ 6) → source.new ≡ source.old }
     ensures same { (result.status.0 ≡ 5) ⊎ (result.status.0 ≡ 6) → Stays (K.tables place keeper) (K.tables place result.keeper) }
     ensures keeper_fault { result.status.0 ≡ 5 → Rose (K.faults keeper) (K.faults result.keeper) }
-    ensures refused { result.status.0 ≡ 6 → IsRefused (O.written sink.old) (O.written sink.new) (O.faults sink.old) (O.faults sink.new) }
+    ensures refused { result.status.0 ≡ 6 → IsRefused (K.tables place keeper) (O.written sink.old) (O.written sink.new) (O.faults sink.old) (O.faults sink.new) }
     ensures unopenable { result.status.0 ≡ 6 → IsUnopenable (K.tables place keeper) }
     ensures read_fault { result.status.0 ≡ 3 → Rose (S.faults source.old) (S.faults source.new) }
     ensures write_fault { result.status.0 ≡ 4 → Rose (O.faults sink.old) (O.faults sink.new) }

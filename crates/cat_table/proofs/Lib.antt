@@ -7,5 +7,6 @@ pub mod Puts
 pub mod Rising
 pub mod Searched
 pub mod Sides
+pub mod Steps
 pub mod Tables
 pub mod Taken

@@ -1,5 +1,5 @@
 //! Lists kept as balanced trees, whose copies share their parts.
-ghost use Rattle.std.specs.Prelude.{◌≡◌, ◌+◌, ◌*◌, ◌^◌, ◌<◌, ◌≤◌, ◌∷◌, ◌++◌, [], length, drop, if◌then◌else◌, is_ok, IfOk, IsTrue, MatchResult, OnOk, option_map, slice_get, slice_set};
+ghost use Rattle.std.specs.Prelude.{◌≡◌, ◌+◌, ◌*◌, ◌^◌, ◌<◌, ◌≤◌, ◌∷◌, ◌++◌, [], length, drop, if◌then◌else◌, is_ok, IfOk, IfSome, IsTrue, MatchResult, OnOk, option_map, slice_get, slice_set};
 ghost use Rattle.std.specs.FinMap.Entries.{is_sorted};
 ghost use Rattle.cat_table.specs.Rows.{IsAt, IsBetween};
 ghost use Rattle.cat_table.specs.Table.{find};
@@ -7,7 +7,7 @@ ghost use Rattle.std.specs.List.{fold, insert, remove};
 ghost use Rattle.std.specs.Arc.{arc_value};
 ghost use Rattle.std.specs.Iterator.{YieldsFirstRef, item_count};
 ghost use Rattle.cat_table.specs.Parts.{IsBalanced, first_of, parted};
-ghost use Rattle.cat_table.specs.Left.{items_left};
+ghost use Rattle.cat_table.specs.Left.{items_left, step_left};
 ghost use Rattle.cat_table.specs.Tree.{Balance, NearBalance};
 
 use crate::key::{Key, Seek};
@@ -635,11 +635,28 @@ impl<A: Drop> Tree<A> {
     }
 }
 
-/// The items of a tree from a place on, in order.
+// A part of a tree with at most this many items is small.
+const SMALL: usize = 15;
+
+/// The items of a tree from a place on, in order. A small part of the tree is at hand, so that most items are found below it
+/// and not from the top.
 #[derive(Drop)]
 pub struct Items<'a, A> {
-    tree: &'a Tree<A>,
+    // The part at hand, and the place in it of the next item.
+    part: &'a Tree<A>,
     place: usize,
+    // The tree, and the place in it of the first item behind the part.
+    tree: &'a Tree<A>,
+    behind: usize,
+}
+
+// An item, and what comes behind it: first the items of a part from a place on, then those of the tree from a place on.
+#[derive(Drop)]
+struct Step<'a, A> {
+    item: &'a A,
+    part: &'a Tree<A>,
+    place: usize,
+    behind: usize,
 }
 
 impl<A> Tree<A> {
@@ -647,7 +664,85 @@ impl<A> Tree<A> {
     pub fn from(&self, place: usize) -> Items<'_, A>
         ensures { items_left result ≡ drop place self.now }
     {
-        Items { tree: self, place }
+        Items {
+            part: self,
+            place: self.len(),
+            tree: self,
+            behind: place,
+        }
+    }
+
+    // The item at a place of a part that is small.
+    fn small_step(&self, place: usize) -> Option<Step<'_, A>>
+        ensures items { step_left self.now result ≡ drop place self.now }
+        ensures behind { IfSome result (λ s. s.behind ≤ length self.now) }
+    {
+        let behind = self.len();
+        match self.get(place) {
+            None => None,
+            Some(item) => Some(Step {
+                item,
+                part: self,
+                place: place + 1,
+                behind,
+            }),
+        }
+    }
+
+    // The item at a place, and what comes behind it.
+    fn step(&self, place: usize) -> Option<Step<'_, A>>
+        ensures items { step_left self.now result ≡ drop place self.now }
+        ensures behind { IfSome result (λ s. s.behind ≤ length self.now) }
+    {
+        match &self.node {
+            Node::Leaf => None,
+            Node::Fork(fork) => {
+                let fork: &Fork<A> = fork;
+                if fork.size <= SMALL {
+                    return self.small_step(place);
+                }
+                let before = fork.left.len();
+                if place < before {
+                    return fork.left.step(place);
+                }
+                if place == before {
+                    return Some(Step {
+                        item: &fork.item,
+                        part: self,
+                        place: fork.size,
+                        behind: before + 1,
+                    });
+                }
+                match fork.right.step(place - before - 1) {
+                    None => None,
+                    Some(step) => Some(Step {
+                        item: step.item,
+                        part: step.part,
+                        place: step.place,
+                        behind: before + 1 + step.behind,
+                    }),
+                }
+            }
+        }
+    }
+}
+
+impl<'a, A> Items<'a, A> {
+    // The next item, where the part at hand is spent.
+    #[tactic(auto, using(crate::proofs::Steps::part_spent))]
+    fn step(&mut self) -> Option<&'a A>
+        requires { length self.old.part.now ≤ self.old.place }
+        ensures { YieldsFirstRef items_left self.old result self.new }
+    {
+        match self.tree.step(self.behind) {
+            None => None,
+            Some(step) => {
+                self.part = step.part;
+                self.place = step.place;
+                self.behind = step.behind;
+                Some(step.item)
+            }
+        }
     }
 }
 
@@ -658,12 +753,12 @@ impl<'a, A> Iterator for Items<'a, A> {
 
     ghost remaining = { item_count items_left };
 
-    #[tactic(auto, using(crate::proofs::Sides::drop_get))]
+    #[tactic(auto, using(crate::proofs::Steps::part_left))]
     fn next(&mut self) -> Option<&'a A> {
-        if self.place >= self.tree.len() {
-            return None;
+        if self.place >= self.part.len() {
+            return self.step();
         }
-        match self.tree.get(self.place) {
+        match self.part.get(self.place) {
             None => None,
             Some(item) => {
                 self.place += 1;

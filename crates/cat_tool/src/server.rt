@@ -196,7 +196,7 @@ pub(crate) fn run_stored_serve<
     ensures later { D.faults doors.old ≤ D.faults doors.new }
     ensures same { (result.status.0 ≡ 5) ⊎ (result.status.0 ≡ 6) → Stays (K.tables (place_of (map string_bytes words.now)) keeper) (tables_left (K.tables (place_of (map string_bytes words.now))) result.keeper) }
     ensures keeper_fault { result.status.0 ≡ 5 → Rose (K.faults keeper) (faults_left K.faults result.keeper) }
-    ensures refused { result.status.0 ≡ 6 → IsRefused (O.written sink.old) (O.written sink.new) (O.faults sink.old) (O.faults sink.new) }
+    ensures refused { result.status.0 ≡ 6 → IsRefused (K.tables (place_of (map string_bytes words.now)) keeper) (O.written sink.old) (O.written sink.new) (O.faults sink.old) (O.faults sink.new) }
     ensures unopenable { result.status.0 ≡ 6 → IsUnopenable (K.tables (place_of (map string_bytes words.now)) keeper) }
     ensures unwritten { result.status.0 ≢ 6 → sink.new ≡ sink.old }
     ensures write_later { O.faults sink.old ≤ O.faults sink.new }

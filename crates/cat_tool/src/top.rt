@@ -253,7 +253,7 @@ pub fn run<
     ensures write_fault { result.status.0 ≡ 4 → Rose (O.faults sink.old) (O.faults sink.new) }
     ensures store_same { (result.status.0 ≡ 5) ⊎ (result.status.0 ≡ 6) → Stays (K.tables (place_of (map string_bytes words.now)) keeper) (tables_left (K.tables (place_of (map string_bytes words.now))) result.keeper) }
     ensures keeper_fault { result.status.0 ≡ 5 → Rose (K.faults keeper) (faults_left K.faults result.keeper) }
-    ensures refused_store { result.status.0 ≡ 6 → IsRefused (O.written sink.old) (O.written sink.new) (O.faults sink.old) (O.faults sink.new) }
+    ensures refused_store { result.status.0 ≡ 6 → IsRefused (K.tables (place_of (map string_bytes words.now)) keeper) (O.written sink.old) (O.written sink.new) (O.faults sink.old) (O.faults sink.new) }
     ensures unopenable { result.status.0 ≡ 6 → IsUnopenable (K.tables (place_of (map string_bytes words.now)) keeper) }
     ensures stores_alone { (result.status.0 ≡ 5) ⊎ (result.status.0 ≡ 6) → IsOverStore (command_of (map string_bytes words.now)) }
 

@@ -19,49 +19,83 @@ fn reference(alloc: Global, text: &str) -> Result<Ref, Fail> {
     Ok(parse(alloc, text, None, "default")?)
 }
 
+fn push_answers(out: &mut Vec<u8>) -> Result<(), Fail> {
+    push_changed(out)?;
+    push_acted(out, Acted::Now)?;
+    push_acted(out, Acted::Again)?;
+    push_nothing(out)?;
+    push_unknown(out)?;
+    push_no_memory(out)?;
+    Ok(())
+}
+
+fn push_orders(alloc: Global, out: &mut Vec<u8>) -> Result<(), Fail> {
+    let web = reference(alloc, "component:web")?;
+    push_order(out, 1, &web)?;
+    push_ticket(out, 1, &web)?;
+    Ok(())
+}
+
+fn push_ends(out: &mut Vec<u8>) -> Result<(), Fail> {
+    push_finished(out, Finished::Good)?;
+    push_finished(out, Finished::Bad)?;
+    push_finished(out, Finished::Late(Some(2)))?;
+    push_finished(out, Finished::Late(None))?;
+    Ok(())
+}
+
+fn push_places(out: &mut Vec<u8>) -> Result<(), Fail> {
+    push_placed(out, Placed::Counted)?;
+    push_placed(out, Placed::Late(Some(18446744073709551615)))?;
+    push_placed(out, Placed::Late(None))?;
+    Ok(())
+}
+
 #[test]
 fn says_what_events_did(rt: HostRuntime) -> Result<(), Fail> {
     let mut out = Vec::new(rt.alloc());
-    let web = reference(rt.alloc(), "component:web")?;
-    push_changed(&mut out)?;
-    push_acted(&mut out, Acted::Now)?;
-    push_acted(&mut out, Acted::Again)?;
-    push_order(&mut out, 1, &web)?;
-    push_nothing(&mut out)?;
-    push_finished(&mut out, Finished::Good)?;
-    push_finished(&mut out, Finished::Bad)?;
-    push_finished(&mut out, Finished::Late(Some(2)))?;
-    push_finished(&mut out, Finished::Late(None))?;
-    push_ticket(&mut out, 1, &web)?;
-    push_placed(&mut out, Placed::Counted)?;
-    push_placed(&mut out, Placed::Late(Some(18446744073709551615)))?;
-    push_placed(&mut out, Placed::Late(None))?;
+    push_answers(&mut out)?;
+    push_orders(rt.alloc(), &mut out)?;
+    push_ends(&mut out)?;
+    push_places(&mut out)?;
     let wanted =
-        "ok\nok\nok again\norder 1 component:default/web\nnone\nok good\nok bad\nlate 2\nlate none\n\
-ticket 1 component:default/web\nok\nlate 18446744073709551615\nlate none\n";
+        "ok\nok\nok again\nnone\nrefused unknown\nno memory\norder 1 component:default/web\n\
+ticket 1 component:default/web\nok good\nok bad\nlate 2\nlate none\nok\nlate 18446744073709551615\nlate none\n";
     assert_eq!(rt; out.as_slice(), wanted.as_bytes());
+    Ok(())
+}
+
+fn push_faults(out: &mut Vec<u8>) -> Result<(), Fail> {
+    for fault in [
+        Fault::OldSerial(5),
+        Fault::NotFound,
+        Fault::TooLarge(16),
+        Fault::Spent(Counter::Arrival),
+        Fault::Spent(Counter::Number),
+        Fault::Spent(Counter::Token),
+        Fault::Spent(Counter::Ticket),
+    ] {
+        push_refused(out, fault)?;
+    }
+    Ok(())
+}
+
+fn push_no_questions(out: &mut Vec<u8>) -> Result<(), Fail> {
+    push_no_reference(out, 2)?;
+    push_no_query(out, QueryFault::Filter(0, 1))?;
+    push_no_query(out, QueryFault::BadCursor)?;
+    push_no_facet(out)?;
     Ok(())
 }
 
 #[test]
 fn says_why_events_are_refused(rt: HostRuntime) -> Result<(), Fail> {
     let mut out = Vec::new(rt.alloc());
-    push_refused(&mut out, Fault::OldSerial(5))?;
-    push_refused(&mut out, Fault::NotFound)?;
-    push_refused(&mut out, Fault::TooLarge(16))?;
-    push_refused(&mut out, Fault::Spent(Counter::Arrival))?;
-    push_refused(&mut out, Fault::Spent(Counter::Number))?;
-    push_refused(&mut out, Fault::Spent(Counter::Token))?;
-    push_refused(&mut out, Fault::Spent(Counter::Ticket))?;
-    push_no_reference(&mut out, 2)?;
-    push_no_query(&mut out, QueryFault::Filter(0, 1))?;
-    push_no_query(&mut out, QueryFault::BadCursor)?;
-    push_no_facet(&mut out)?;
-    push_unknown(&mut out)?;
-    push_no_memory(&mut out)?;
+    push_faults(&mut out)?;
+    push_no_questions(&mut out)?;
     let wanted = "refused old 5\nrefused not_found\nrefused too_large 16\nrefused spent arrival\n\
 refused spent number\nrefused spent token\nrefused spent ticket\nrefused reference 2\n\
-refused filter 0 1\nrefused cursor\nrefused facet\nrefused unknown\nno memory\n";
+refused filter 0 1\nrefused cursor\nrefused facet\n";
     assert_eq!(rt; out.as_slice(), wanted.as_bytes());
     Ok(())
 }
@@ -82,23 +116,37 @@ fn record(alloc: Global, level: Level, message: &str) -> Result<Record, Fail> {
     })
 }
 
+fn shown(alloc: Global, records: &Table<Ref, Record>) -> Result<Vec<u8>, Fail> {
+    let mut out = Vec::new(alloc);
+    push_failures(alloc, &mut out, records)?;
+    Ok(out)
+}
+
+fn put(
+    alloc: Global,
+    records: &mut Table<Ref, Record>,
+    text: &str,
+    record: Record,
+) -> Result<(), Fail> {
+    records.put(reference(alloc, text)?, record)?;
+    Ok(())
+}
+
 #[test]
 fn lists_failures(rt: HostRuntime) -> Result<(), Fail> {
     let alloc = rt.alloc();
-    let mut out = Vec::new(alloc);
     let mut records = Table::new(alloc);
-    records.put(
-        reference(alloc, "api:x")?,
+    put(
+        alloc,
+        &mut records,
+        "api:x",
         record(alloc, Level::Warning, "x")?,
     )?;
-    push_failures(alloc, &mut out, &records)?;
-    records.put(
-        reference(alloc, "component:web")?,
-        record(alloc, Level::Error, "NoKind spec.dependsOn.0")?,
-    )?;
-    push_failures(alloc, &mut out, &records)?;
+    assert_eq!(rt; shown(alloc, &records)?.as_slice(), b"[]".as_slice());
+    let failed = record(alloc, Level::Error, "NoKind spec.dependsOn.0")?;
+    put(alloc, &mut records, "component:web", failed)?;
     let wanted =
-        "[][{\"entityRef\":\"component:default/web\",\"items\":[{\"error\":{\"message\":\"NoKind spec.dependsOn.0\",\"name\":\"ReferenceFault\"},\"level\":\"error\",\"message\":\"NoKind spec.dependsOn.0\",\"type\":\"backstage.io/catalog-processing\"}]}]";
-    assert_eq!(rt; out.as_slice(), wanted.as_bytes());
+        "[{\"entityRef\":\"component:default/web\",\"items\":[{\"error\":{\"message\":\"NoKind spec.dependsOn.0\",\"name\":\"ReferenceFault\"},\"level\":\"error\",\"message\":\"NoKind spec.dependsOn.0\",\"type\":\"backstage.io/catalog-processing\"}]}]";
+    assert_eq!(rt; shown(alloc, &records)?.as_slice(), wanted.as_bytes());
     Ok(())
 }

@@ -16,13 +16,8 @@ pub fn reference(alloc: Global, text: &str) -> Result<Ref, Fail> {
     Ok(parse(alloc, text, None, "default")?)
 }
 
-/// The relation between what two texts name.
-pub fn relation(
-    alloc: Global,
-    source: &str,
-    kind: RelKind,
-    target: &str,
-) -> Result<Relation, Fail> {
+// The relation between what two texts name.
+fn relation(alloc: Global, source: &str, kind: RelKind, target: &str) -> Result<Relation, Fail> {
     let source = reference(alloc, source)?;
     let target = reference(alloc, target)?;
     Ok(Relation {
@@ -37,8 +32,8 @@ pub fn node(alloc: Global, text: &[u8]) -> Result<Node, Fail> {
     Ok(Node::new(alloc, read(alloc, text)?)?)
 }
 
-/// A list of this alone.
-pub fn alone<X: Drop>(alloc: Global, item: X) -> Result<Listing<X>, AllocError> {
+// A list of this alone.
+fn alone<X: Drop>(alloc: Global, item: X) -> Result<Listing<X>, AllocError> {
     let mut items = Listing::new(alloc);
     items.push(item)?;
     Ok(items)

@@ -1,13 +1,10 @@
 //! Records at work.
+use crate::made::reference;
 use cat_records::records::Records;
 use cat_records::view::{Accepting, RecordFault, RecordView};
-use cat_ref::reference::{Ref, parse};
+use cat_ref::reference::Ref;
 use std::alloc::Global;
 use std::test::Fail;
-
-fn reference(alloc: Global, text: &str) -> Result<Ref, Fail> {
-    Ok(parse(alloc, text, None, "default")?)
-}
 
 fn add(alloc: Global, records: &mut Records, text: &str) -> Result<u64, Fail> {
     let reference = reference(alloc, text)?;

@@ -3,47 +3,28 @@ use crate::made::{parts, work};
 use cat_same::same::{parts_alike, works_alike};
 use cat_types::issue::IssueName;
 use cat_types::relation::RelKind;
-use std::alloc::Global;
 use std::test::Fail;
-
-// Whether this work equals that of {"a":1} and [].
-fn is_like_work(alloc: Global, tree: &[u8], body: Option<&str>) -> Result<bool, Fail> {
-    let base = work(alloc, b"{\"a\":1}", Some("[]"))?;
-    let other = work(alloc, tree, body)?;
-    Ok(works_alike(&base, &other))
-}
 
 #[test]
 fn compares_works(rt: HostRuntime) -> Result<(), Fail> {
-    let cases: [(&[u8], Option<&str>, bool); 4] = [
-        (b"{ \"a\" : 1 }", Some("[]"), true),
-        (b"{\"a\":2}", Some("[]"), false),
-        (b"{\"a\":1}", Some("{}"), false),
-        (b"{\"a\":1}", None, false),
-    ];
-    for (tree, body, wanted) in cases.iter() {
-        assert_eq!(rt; is_like_work(rt.alloc(), tree, *body)?, *wanted);
-    }
+    let base = work(rt.alloc(), b"{\"a\":1}", Some("[]"))?;
+    assert!(rt; works_alike(&base, &work(rt.alloc(), b"{ \"a\" : 1 }", Some("[]"))?));
+    assert!(rt; !works_alike(&base, &work(rt.alloc(), b"{\"a\":2}", Some("[]"))?));
+    assert!(rt; !works_alike(&base, &work(rt.alloc(), b"{\"a\":1}", Some("{}"))?));
+    assert!(rt; !works_alike(&base, &work(rt.alloc(), b"{\"a\":1}", None)?));
     Ok(())
-}
-
-// Whether these parts equal those of 1, an owner and a fault of the schema.
-fn is_like_parts(alloc: Global, number: u64, kind: RelKind, name: IssueName) -> Result<bool, Fail> {
-    let base = parts(alloc, 1, RelKind::OwnedBy, IssueName::SchemaFault)?;
-    let other = parts(alloc, number, kind, name)?;
-    Ok(parts_alike(&base, &other))
 }
 
 #[test]
 fn compares_parts(rt: HostRuntime) -> Result<(), Fail> {
-    let cases = [
-        (1, RelKind::OwnedBy, IssueName::SchemaFault, true),
-        (2, RelKind::OwnedBy, IssueName::SchemaFault, false),
-        (1, RelKind::OwnerOf, IssueName::SchemaFault, false),
-        (1, RelKind::OwnedBy, IssueName::TargetFault, false),
-    ];
-    for (number, kind, name, wanted) in cases.iter() {
-        assert_eq!(rt; is_like_parts(rt.alloc(), *number, *kind, *name)?, *wanted);
-    }
+    let base = parts(rt.alloc(), 1, RelKind::OwnedBy, IssueName::SchemaFault)?;
+    let equal = parts(rt.alloc(), 1, RelKind::OwnedBy, IssueName::SchemaFault)?;
+    assert!(rt; parts_alike(&base, &equal));
+    let numbered = parts(rt.alloc(), 2, RelKind::OwnedBy, IssueName::SchemaFault)?;
+    assert!(rt; !parts_alike(&base, &numbered));
+    let related = parts(rt.alloc(), 1, RelKind::OwnerOf, IssueName::SchemaFault)?;
+    assert!(rt; !parts_alike(&base, &related));
+    let faulty = parts(rt.alloc(), 1, RelKind::OwnedBy, IssueName::TargetFault)?;
+    assert!(rt; !parts_alike(&base, &faulty));
     Ok(())
 }

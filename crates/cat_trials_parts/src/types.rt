@@ -1,18 +1,14 @@
-//! Tables, relations and copies.
-use crate::made::{alone, node, parts, reference, relation, work};
-use cat_ref::reference::Ref;
-use cat_table::key::Key;
+//! Tables and copies.
+use crate::made::{node, parts, reference, work};
 use cat_table::listing::{Copied, Listing};
 use cat_table::map::rise;
 use cat_tree::text::Text;
 use cat_types::input::{Item, Offered};
-use cat_types::issue::{Issue, IssueName, Level};
-use cat_types::node::Node;
-use cat_types::relation::{RelKind, Relation};
+use cat_types::issue::{IssueName, Level};
+use cat_types::relation::RelKind;
 use cat_types::table::{Ready, Table};
 use cat_types::work::Output;
 use std::alloc::{AllocError, Global};
-use std::cmp::Ordering;
 use std::test::Fail;
 
 // The table after five puts, the last two at keys that it has.
@@ -31,15 +27,8 @@ fn keeps_entries_in_order(rt: HostRuntime) -> Result<(), Fail> {
     assert_eq!(rt; table.len(), 3);
     assert_eq!(rt; table.as_slice(), [(1, 11), (2, 20), (3, 33)].as_slice());
     assert_eq!(rt; table.keys(rt.alloc())?.as_slice(), [1, 2, 3].as_slice());
-    Ok(())
-}
-
-#[test]
-fn finds_entries_in_order(rt: HostRuntime) -> Result<(), Fail> {
-    let table = filled(rt.alloc())?.duplicate(rt.alloc())?;
-    for (key, wanted) in [(4, None), (3, Some(33)), (1, Some(11))].iter() {
-        assert_eq!(rt; table.get(key).copied(), *wanted);
-    }
+    assert_eq!(rt; table.get(&3), Some(&33));
+    assert_eq!(rt; table.get(&4), None);
     Ok(())
 }
 
@@ -110,74 +99,10 @@ fn changes_entries_in_place(rt: HostRuntime) -> Result<(), Fail> {
 fn finds_entries_in_any_order(rt: HostRuntime) -> Result<(), Fail> {
     let given = Vec::from_array(rt.alloc(), [(3u64, 30u64), (1, 10), (3, 33)])?;
     let table = Table::from_vec(given);
-    for (key, wanted) in [(3, Some(30)), (1, Some(10)), (2, None)].iter() {
-        assert_eq!(rt; table.get(key).copied(), *wanted);
-    }
+    assert_eq!(rt; table.get(&3), Some(&30));
+    assert_eq!(rt; table.get(&1), Some(&10));
+    assert_eq!(rt; table.get(&2), None);
     Ok(())
-}
-
-// A table of four texts.
-fn named(alloc: Global) -> Result<Table<Text, u64>, AllocError> {
-    let mut table = Table::new(alloc);
-    for key in ["b", "", "ab", "B"].iter() {
-        table.put(Text::of(alloc, key)?, 0u64)?;
-    }
-    Ok(table)
-}
-
-#[test]
-fn orders_texts_by_bytes(rt: HostRuntime) -> Result<(), Fail> {
-    let table = named(rt.alloc())?;
-    let mut keys = String::new(rt.alloc());
-    for (key, _) in table.as_slice() {
-        keys.push_str(key.as_str())?;
-        keys.push_str(";")?;
-    }
-    assert_eq!(rt; keys.as_str(), ";B;ab;b;");
-    Ok(())
-}
-
-// Relations in their order.
-const RISING: [(&str, RelKind, &str); 4] = [
-    ("a:x", RelKind::PartOf, "b:x"),
-    ("b:x", RelKind::DependsOn, "c:z"),
-    ("b:x", RelKind::OwnedBy, "c:y"),
-    ("b:x", RelKind::OwnedBy, "c:z"),
-];
-
-#[test]
-fn orders_relations(rt: HostRuntime) -> Result<(), Fail> {
-    for (place, left) in RISING.iter().enumerate() {
-        let left = relation(rt.alloc(), left.0, left.1, left.2)?;
-        for (other, right) in RISING.iter().enumerate() {
-            let right = relation(rt.alloc(), right.0, right.1, right.2)?;
-            assert_eq!(rt; left.compare(&right), place.cmp(&other));
-        }
-    }
-    Ok(())
-}
-
-#[test]
-fn names_kinds_of_relations(rt: HostRuntime) {
-    let cases = [
-        (RelKind::OwnedBy, "ownedBy"),
-        (RelKind::OwnerOf, "ownerOf"),
-        (RelKind::PartOf, "partOf"),
-        (RelKind::HasPart, "hasPart"),
-        (RelKind::ProvidesApi, "providesApi"),
-        (RelKind::ApiProvidedBy, "apiProvidedBy"),
-        (RelKind::ConsumesApi, "consumesApi"),
-        (RelKind::ApiConsumedBy, "apiConsumedBy"),
-        (RelKind::DependsOn, "dependsOn"),
-        (RelKind::DependencyOf, "dependencyOf"),
-        (RelKind::ChildOf, "childOf"),
-        (RelKind::ParentOf, "parentOf"),
-        (RelKind::HasMember, "hasMember"),
-        (RelKind::MemberOf, "memberOf"),
-    ];
-    for (kind, wanted) in cases.iter() {
-        assert_eq!(rt; kind.text(), *wanted);
-    }
 }
 
 #[test]
@@ -186,28 +111,8 @@ fn copies_parts(rt: HostRuntime) -> Result<(), Fail> {
     let copy = parts.duplicate(rt.alloc())?;
     assert!(rt; copy.entity.same(&parts.entity) && copy.number == 7 && copy.orphan);
     assert_eq!(rt; copy.relations.len(), 1);
-    assert_eq!(rt; copy.issues.len(), 1);
-    Ok(())
-}
-
-#[test]
-fn copies_relations_of_parts(rt: HostRuntime) -> Result<(), Fail> {
-    let parts = parts(rt.alloc(), 7, RelKind::PartOf, IssueName::DuplicateOffer)?;
-    let copy = parts.duplicate(rt.alloc())?;
-    let originals = parts.relations.as_slice();
-    for (left, right) in copy.relations.as_slice().iter().zip(originals) {
-        assert_eq!(rt; left.compare(right), Ordering::Equal);
-    }
-    Ok(())
-}
-
-#[test]
-fn copies_issues_of_parts(rt: HostRuntime) -> Result<(), Fail> {
-    let parts = parts(rt.alloc(), 7, RelKind::PartOf, IssueName::DuplicateOffer)?;
-    let copy = parts.duplicate(rt.alloc())?;
     for issue in copy.issues.as_slice() {
-        assert_eq!(rt; issue.level, Level::Warning);
-        assert_eq!(rt; issue.name, IssueName::DuplicateOffer);
+        assert!(rt; issue.level == Level::Warning && issue.name == IssueName::DuplicateOffer);
         assert_eq!(rt; issue.message.as_str(), "S2 apiVersion");
     }
     Ok(())
@@ -237,19 +142,15 @@ fn output(alloc: Global) -> Result<Output, Fail> {
 }
 
 #[test]
-fn copies_outputs(rt: HostRuntime) -> Result<(), Fail> {
+fn copies_outputs_and_items(rt: HostRuntime) -> Result<(), Fail> {
     let output = output(rt.alloc())?;
     let copy = output.duplicate(rt.alloc())?;
     assert!(rt; copy.entity.same(&output.entity));
-    let sought = reference(rt.alloc(), "a:x")?;
-    let offered = copy.offers.get(&sought).ok_or("absent")?;
+    let offered = copy
+        .offers
+        .get(&reference(rt.alloc(), "a:x")?)
+        .ok_or("absent")?;
     assert_eq!(rt; offered.key.as_str(), "k");
-    assert!(rt; offered.tree.same(&node(rt.alloc(), b"1")?));
-    Ok(())
-}
-
-#[test]
-fn copies_items(rt: HostRuntime) -> Result<(), Fail> {
     let item = Item {
         reference: reference(rt.alloc(), "a:x")?,
         key: None,

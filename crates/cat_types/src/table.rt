@@ -192,8 +192,8 @@ fn copies<K: Key + Copied + Drop, X: Copied + Drop>(
     Ok(made)
 }
 
-// A map of copies of entries.
-fn mapped<K: Key + Copied + Drop, X: Copied + Drop>(
+/// A map of copies of entries whose keys rise. The error is want of memory.
+pub fn mapped<K: Key + Copied + Drop, X: Copied + Drop>(
     alloc: Global,
     items: &[(K, X)],
 ) -> Result<Map<K, X>, AllocError>

@@ -1,0 +1,18 @@
+-- Which row is named where the rows of a store are compared with those of their state.
+use Rattle.std.proofs.Common.{◌≡◌, inr, subst, ◌∙◌}
+use Rattle.std.specs.Prelude.{MatchOption}
+use Rattle.std.specs.declared.option.Option.{Option}
+use Rattle.std.specs.declared.option.Option.TheVariants.{None, Some}
+use Rattle.cat_breaches.specs.Difference.{PartAt}
+use Rattle.cat_keeper.specs.Store.{RowKey, Rows}
+use Rattle.cat_opening.specs.Candidate.{IsCandidate}
+use Rattle.cat_opening.specs.declared.types.Candidate.{Candidate}
+use Rattle.cat_store.specs.Refused.{AreTheirs, IsDifference}
+use Rattle.cat_tables.specs.Opened.{is_first, rows_in}
+use Rattle.cat_tables.specs.Stored.{texts_of}
+
+-- the texts of the state are those that rows were compared with
+pub compared : (rows others : Rows) (found : Candidate) → IsCandidate rows found → others ≡ texts_of (rows_in (is_first rows) found.rule found.state)
+    → (key : Option RowKey) → MatchOption key (rows ≡ others) (PartAt rows others) → MatchOption key (AreTheirs rows) (IsDifference rows)
+compared rows others found is same None h = inr (found, is, h ∙ same)
+compared rows others found is same (Some key) h = (found, is, subst (λ o. PartAt rows o key) same h)
