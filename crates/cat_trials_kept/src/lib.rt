@@ -1,7 +1,7 @@
 //! Tests of stores and of commands over them.
 //!
 //! `kept_in_memory`, `kept_in_journal` and `kept_in_database` each open the store of `kept_rows` over one kind of keeper; `stored` has the
-//! tests of cat_stored.
+//! tests of cat_stored, and `sittings` those of cat_sittings.
 //!
 //! It stands on those crates and on what their answers are made of, has no code of its own but what tests need, and promises nothing.
 #![tactic(auto)]
@@ -14,5 +14,7 @@ mod kept_in_journal;
 mod kept_in_memory;
 #[cfg(test)]
 mod kept_rows;
+#[cfg(test)]
+mod sittings;
 #[cfg(test)]
 mod stored;
