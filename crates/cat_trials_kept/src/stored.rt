@@ -42,42 +42,51 @@ fn session_over(
 const OWNER: &[u8] =
     b"full git {\"serial\":1,\"entities\":[{\"entity\":{\"apiVersion\":\"backstage.io/v1alpha1\",\"kind\":\"Component\",\"metadata\":{\"name\":\"web\"},\"spec\":{\"type\":\"service\",\"lifecycle\":\"production\",\"owner\":\"a\"}}}]}\n";
 
+// The call of the keeper that fails, the status, what is written to two mutations, a settle and the state, and what a second session writes.
+const CASES: [(u64, u8, &[u8], &[u8]); 4] = [
+    (1, 5, b"", NOTHING),
+    (
+        2,
+        0,
+        b"refused keeper\nok\nsettled 1 1 1\nstate records 1 orphans 0 due 0 leased 0 marked 0\n",
+        DUE,
+    ),
+    (
+        3,
+        0,
+        b"ok\nok again\nrefused keeper\nstate records 1 orphans 0 due 1 leased 0 marked 0\n",
+        DUE,
+    ),
+    (
+        9,
+        0,
+        b"ok\nok again\nsettled 1 1 1\nstate records 1 orphans 0 due 0 leased 0 marked 0\n",
+        DUE,
+    ),
+];
+
+const NOTHING: &[u8] = b"state records 0 orphans 0 due 0 leased 0 marked 0\nyes\n";
+
+const DUE: &[u8] = b"state records 1 orphans 0 due 1 leased 0 marked 0\nno\n";
+
 #[test]
 fn what_is_kept_is_there_again(rt: HostRuntime) -> Result<(), Fail> {
     let alloc = rt.alloc();
-    // The call of the keeper that fails, the status, and what is written to two mutations, a settle and the state.
-    let cases: [(u64, u8, &[u8]); 4] = [
-        (1, 5, b""),
-        (
-            2,
-            0,
-            b"refused keeper\nok\nsettled 1 1 1\nstate records 1 orphans 0 due 0 leased 0 marked 0\n",
-        ),
-        (
-            3,
-            0,
-            b"ok\nok again\nrefused keeper\nstate records 1 orphans 0 due 1 leased 0 marked 0\n",
-        ),
-        (
-            9,
-            0,
-            b"ok\nok again\nsettled 1 1 1\nstate records 1 orphans 0 due 0 leased 0 marked 0\n",
-        ),
-    ];
-    for (failing, status, written) in cases.iter() {
+    for (failing, status, written, again) in CASES.iter() {
         let keeper = keeper_of(alloc, &[], *failing)?;
         let lines = [OWNER, OWNER, b"settle\nstate\n"].concat(alloc)?;
         let (ran, sink) = session_over(alloc, keeper, lines.as_slice())?;
         assert_eq!(rt; ran.status, Status(*status));
         assert_eq!(rt; sink.written(), *written);
         let (_, sink) = session_over(alloc, ran.keeper, b"state\nquiet\n")?;
-        let again: &[u8] = if *failing == 1 {
-            b"state records 0 orphans 0 due 0 leased 0 marked 0\nyes\n"
-        } else {
-            b"state records 1 orphans 0 due 1 leased 0 marked 0\nno\n"
-        };
-        assert_eq!(rt; sink.written(), again);
+        assert_eq!(rt; sink.written(), *again);
     }
+    Ok(())
+}
+
+#[test]
+fn a_row_without_a_reading_is_named(rt: HostRuntime) -> Result<(), Fail> {
+    let alloc = rt.alloc();
     let keeper = keeper_of(
         alloc,
         &[
