@@ -41,6 +41,23 @@ fn given(alloc: Global, place: &Place, input: &[u8]) -> Result<(Place, MemorySou
     Ok((place, source))
 }
 
+// The session over what a source has.
+fn over<O: Sink, K: Keeper>(
+    alloc: Global,
+    orphans: Option<OrphanRule>,
+    place: Place,
+    keeper: K,
+    source: MemorySource,
+    sink: &mut O,
+) -> Ran<K>
+    ensures { HasSat place orphans source.left
+        (record { rows = K.tables place keeper; faults = K.faults keeper; written = O.written sink.old; sink_faults = O.faults sink.old }) result.status.0
+        (record { rows = K.tables place result.keeper; faults = K.faults result.keeper; written = O.written sink.new; sink_faults = O.faults sink.new }) }
+{
+    let mut source = source;
+    run_stored(alloc, orphans, place, keeper, &mut source, sink)
+}
+
 // The session over an input.
 fn sitting<O: Sink, K: Keeper>(
     alloc: Global,
@@ -50,13 +67,12 @@ fn sitting<O: Sink, K: Keeper>(
     input: &[u8],
     sink: &mut O,
 ) -> Ran<K>
-    ensures { HasSat place.now orphans input.now (K.tables place.now keeper) (O.written sink.old) result.status.0 (O.written sink.new) (K.tables place.now result.keeper) }
+    ensures { HasSat place.now orphans input.now
+        (record { rows = K.tables place.now keeper; faults = K.faults keeper; written = O.written sink.old; sink_faults = O.faults sink.old }) result.status.0
+        (record { rows = K.tables place.now result.keeper; faults = K.faults result.keeper; written = O.written sink.new; sink_faults = O.faults sink.new }) }
 {
     match given(alloc, place, input) {
-        Ok((place, source)) => {
-            let mut source = source;
-            run_stored(alloc, orphans, place, keeper, &mut source, sink)
-        }
+        Ok((place, source)) => over(alloc, orphans, place, keeper, source, sink),
         Err(_) => Ran {
             status: Status(9),
             keeper,
@@ -75,7 +91,9 @@ pub fn sittings<O: Sink, K: Keeper>(
     inputs: &[&[u8]],
     sink: &mut O,
 ) -> Ran<K>
-    ensures { HaveSat place.now orphans (map (λ b. b.now) inputs.now) (K.tables place.now keeper) (O.written sink.old) result.status.0 (O.written sink.new) (K.tables place.now result.keeper) }
+    ensures { HaveSat place.now orphans (map (λ b. b.now) inputs.now)
+        (record { rows = K.tables place.now keeper; faults = K.faults keeper; written = O.written sink.old; sink_faults = O.faults sink.old }) result.status.0
+        (record { rows = K.tables place.now result.keeper; faults = K.faults result.keeper; written = O.written sink.new; sink_faults = O.faults sink.new }) }
 {
     match inputs.split_first() {
         None => Ran {
