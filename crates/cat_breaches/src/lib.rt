@@ -6,7 +6,8 @@
 //! one number both break a rule, so the first of them is named. Stores of both versions are read.
 //!
 //! It stands on cat_rows for the texts of rows and on cat_opening for what is asked of a tree. It carries the promise that a
-//! store which doesn't open is refused by the name of the first row that is at fault (`first::wrong_row`).
+//! store which doesn't open is refused by the name of the first row that is at fault (`first::wrong_row`), or where none is by the
+//! first that differs from those of the state which the rows stand for (`difference::first_difference`).
 #![tactic(auto)]
 
 mod climb;

@@ -52,7 +52,7 @@ fn push_rows(out: &mut String, alloc: Global, candidate: &Candidate) -> Result<(
 }
 
 fn push_records(out: &mut String, alloc: Global, candidate: &Candidate) -> Result<(), AllocError> {
-    for (reference, record) in candidate.state.records.as_slice() {
+    for (reference, record) in candidate.state.records.iter() {
         let reference = reference.as_str();
         let number = record.number;
         let issues = record.issues.len();
@@ -82,7 +82,7 @@ fn push_others(out: &mut String, alloc: Global, candidate: &Candidate) -> Result
         let body = body.as_str();
         out.push_str(format!(in alloc; " {name}:{body}")?.as_str())?;
     }
-    for (reference, orphan) in candidate.state.orphans.as_slice() {
+    for (reference, orphan) in candidate.state.orphans.iter() {
         let reference = reference.as_str();
         let number = orphan.number;
         out.push_str(format!(in alloc; " {reference}#{number}")?.as_str())?;

@@ -6,13 +6,11 @@ use Rattle.std.specs.Ordering.{is_gt, is_lt}
 use Rattle.std.specs.Cmp.{IsTotalOrder}
 use Rattle.std.specs.FinMap.{IsAntisymmetric}
 use Rattle.std.specs.FinMap.Entries.{below_all, by_order, is_sorted}
-use Rattle.cat_table.specs.Table.{Map, Text, first, keys, put, put_some, tabulate, text_cmp}
+use Rattle.cat_table.specs.Table.{Text, first, keys, put, put_some, tabulate, text_cmp}
 use Rattle.cat_table.proofs.Tables.{text_antisymmetric, text_total, and_first, and_second, is_sorted-tabulate}
 use Rattle.cat_model.specs.declared.types.State.{State}
-use Rattle.cat_model.specs.declared.types.Orphan.{Orphan}
-use Rattle.cat_model.specs.declared.types.Record.{Record}
 use Rattle.cat_model.specs.Catalogue.{known_refs}
-use Rattle.cat_core.specs.Least.{least, lesser, nearer}
+use Rattle.cat_core.specs.Least.{least, lesser, lesser_of, nearer}
 
 pub holds : (b : Bool) → T b → b ≡ true
 holds true h = refl
@@ -26,6 +24,20 @@ is_less Greater e = absurd (true≢false (sym e))
 alike : {A : Type 0} (b : Bool) (x : A) → x ≡ cond b x x
 alike true x = refl
 alike false x = refl
+
+module _ {K : Type 0} {R : K → K → Ordering} (o : IsTotalOrder R) (s : IsAntisymmetric R) where
+  -- beside a lower key, a key doesn't count
+  lesser_beside : (k f : K) → R k f ≡ Less → (best : Option K) → lesser R k (lesser R f best) ≡ lesser R k best
+  lesser_beside k f l None = ap (λ r. cond (is_gt r) (Some f) (Some k)) l
+  lesser_beside k f l (Some b) = go (R f b) refl
+    where
+      lower : R k b ≡ Less → lesser R k (Some f) ≡ lesser R k (Some b)
+      lower h = ap (λ r. cond (is_gt r) (Some f) (Some k)) l ∙ sym (ap (λ r. cond (is_gt r) (Some b) (Some k)) h)
+
+      go : (r : Ordering) → R f b ≡ r → lesser R k (cond (is_gt r) (Some b) (Some f)) ≡ lesser R k (Some b)
+      go Less q = lower (o.trans k f b l q)
+      go Equal q = lower (subst (λ y. R k y ≡ Less) (s f b q) l)
+      go Greater q = refl
 
 module _ {K X : Type 0} {R : K → K → Ordering} (o : IsTotalOrder R) (s : IsAntisymmetric R) (p : K → Bool) where
   -- a key below y is the lesser beside entries above y
@@ -66,6 +78,24 @@ module _ {K X : Type 0} {R : K → K → Ordering} (o : IsTotalOrder R) (s : IsA
       go Equal t ih = subst (λ q. cond (p e.0) (Some e.0) (first p (keys es)) ≡ nearer R (p q) q (cond (p e.0) (Some e.0) (first p (keys es)))) (sym (s k e.0 t)) (itself (p e.0))
       go Greater g ih = ap (cond (p e.0) (Some e.0)) ih ∙ behind g (p e.0) (p k)
 
+  -- beside a key below all entries, the first of them doesn't count
+  lesser_first : (k : K) (es : List (K × X)) → below_all R k es ≡ true → (best : Option K) → lesser R k (lesser_of R (first p (keys es)) best) ≡ lesser R k best
+  lesser_first k [] h best = refl
+  lesser_first k (e ∷ es) h best = go (p e.0) (lesser_first k es (and_second _ _ h) best)
+    where
+      go : (c : Bool) → lesser R k (lesser_of R (first p (keys es)) best) ≡ lesser R k best → lesser R k (lesser_of R (cond c (Some e.0) (first p (keys es))) best) ≡ lesser R k best
+      go true ih = lesser_beside o s k e.0 (is_less (R k e.0) (and_first _ _ h)) best
+      go false ih = ih
+
+  -- in order, the least of those that pass is the first
+  least_first : (es : List (K × X)) → is_sorted R es ≡ true → (best : Option K) → least R p (keys es) best ≡ lesser_of R (first p (keys es)) best
+  least_first [] h best = refl
+  least_first (e ∷ es) h best = go (p e.0) (least_first es (and_second _ _ h) best)
+    where
+      go : (c : Bool) → least R p (keys es) best ≡ lesser_of R (first p (keys es)) best → nearer R c e.0 (least R p (keys es) best) ≡ lesser_of R (cond c (Some e.0) (first p (keys es))) best
+      go true ih = ap (lesser R e.0) ih ∙ lesser_first e.0 es (and_first _ _ h) best
+      go false ih = ih
+
 module _ {K : Type 0} {R : K → K → Ordering} (o : IsTotalOrder R) (s : IsAntisymmetric R) (p : K → Bool) where
   -- the first of keys that are put in order is the least of those that have a value
   pub first_least : {X : Type 0} (f : K → Option X) (ks : List K) → first p (keys (tabulate R ks f)) ≡ least R (λ k. is_some (f k) && p k) ks None
@@ -85,8 +115,14 @@ module _ {K : Type 0} {R : K → K → Ordering} (o : IsTotalOrder R) (s : IsAnt
 first_known : (p : Text → Bool) (m : State) → first p (known_refs m) ≡ least text_cmp p (keys m.records) (least text_cmp p (keys m.orphans) None)
 first_known p m = first_least text_total text_antisymmetric p (λ r. Some (tt {0})) (keys m.records ++ keys m.orphans) ∙ least_append text_total text_antisymmetric p (keys m.records) (keys m.orphans) None
 
--- the least over the records, begun with the least over the orphans, is the first that passes
-pub known_is : (p : Text → Bool) (m : State) (records : Map Record) (orphans : Map Orphan) (orphan found : Option Text) → records ≡ m.records → orphans ≡ m.orphans
-    → orphan ≡ least text_cmp p (keys orphans) None → found ≡ least text_cmp p (keys records) orphan → found ≡ first p (known_refs m)
-known_is p m records orphans orphan found er eo e f =
-    f ∙ ((λ i. least text_cmp p (keys (er i)) (e i)) ∙ (ap (λ (os : Map Orphan). least text_cmp p (keys m.records) (least text_cmp p (keys os) None)) eo ∙ sym (first_known p m)))
+alone : (v : Option Text) → lesser_of text_cmp v None ≡ v
+alone None = refl
+alone (Some k) = refl
+
+-- where records and orphans are in order, the lesser of their firsts is the first of what is known
+pub known_is : (p : Text → Bool) (m : State) → is_sorted text_cmp m.records ≡ true → is_sorted text_cmp m.orphans ≡ true → (kept orphan found : Option Text)
+    → kept ≡ first p (keys m.records) → orphan ≡ first p (keys m.orphans) → found ≡ lesser_of text_cmp kept orphan → found ≡ first p (known_refs m)
+known_is p m records orphans kept orphan found k e f =
+    let of_orphans = least_first text_total text_antisymmetric p m.orphans orphans None ∙ alone (first p (keys m.orphans)) in
+    let of_records = least_first text_total text_antisymmetric p m.records records (first p (keys m.orphans)) in
+    f ∙ ((λ i. lesser_of text_cmp (k i) (e i)) ∙ sym (first_known p m ∙ (ap (least text_cmp p (keys m.records)) of_orphans ∙ of_records)))

@@ -7,11 +7,11 @@ use Rattle.std.specs.List.{filter}
 use Rattle.cat_table.specs.Table.{Map, get, keys, text_cmp}
 use Rattle.cat_table.proofs.Tables.{text_antisymmetric, text_total}
 use Rattle.cat_model.specs.Catalogue.{Ref}
+use Rattle.cat_model.specs.Dues.{sooner, soonest}
 use Rattle.cat_model.specs.Step.{due_at, earlier, earliest, may_take, next_taken}
 use Rattle.cat_model.specs.declared.types.Record.{Record}
 use Rattle.cat_model.specs.declared.types.State.{State}
 use Rattle.cat_settle.proofs.Held.{AreHeld, IsHeld, are_held}
-use Rattle.cat_core.specs.Soonest.{sooner, soonest}
 
 -- the entry, if there is one, is found under its key
 abbrev IsFound : Map Record → Option (Ref × Record) → Type 0
@@ -62,5 +62,5 @@ module _ (m : State) (now : ℕ) where
   soonest_is sorted = keys_soonest m.records (are_held text_total text_antisymmetric m.records sorted)
 
 -- the key of the entry that is soonest is the record that a take leases
-pub taken_key : (m : State) (now : ℕ) → is_sorted text_cmp m.records ≡ true → (v : Option (Ref × Record)) → v ≡ soonest now m.records → (r : Option Ref) → r ≡ key v → r ≡ next_taken now m
-taken_key m now sorted v is r at = at ∙ (ap key is ∙ soonest_is m now sorted)
+pub taken_key : (m : State) (now : ℕ) → is_sorted text_cmp m.records ≡ true → (r : Option Ref) → r ≡ key (soonest now m.records) → r ≡ next_taken now m
+taken_key m now sorted r at = at ∙ soonest_is m now sorted

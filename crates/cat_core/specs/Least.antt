@@ -10,6 +10,11 @@ abbrev pub lesser : {K : Type 0} → (K → K → Ordering) → K → Option K �
 lesser R k None = Some k
 lesser R k (Some b) = cond (is_gt (R k b)) (Some b) (Some k)
 
+-- the lesser of two keys, or the only one, if there is any
+abbrev pub lesser_of : {K : Type 0} → (K → K → Ordering) → Option K → Option K → Option K
+lesser_of R None best = best
+lesser_of R (Some k) best = lesser R k best
+
 -- the best with one key more, which counts only where it passes
 abbrev pub nearer : {K : Type 0} → (K → K → Ordering) → Bool → K → Option K → Option K
 nearer R true k best = lesser R k best

@@ -2,5 +2,4 @@ pub mod Answer
 pub mod Kept
 pub mod Least
 pub mod Numbered
-pub mod Soonest
 pub mod Waits

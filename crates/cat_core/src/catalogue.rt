@@ -36,6 +36,7 @@ use cat_hold::hold::row_of;
 use cat_hold::layers::Layers;
 use cat_links::links::Links;
 use cat_marks::marks::Marks;
+use cat_model::records::Records;
 use cat_model::rows::IndexedRows;
 use cat_model::types::{
     Acted, Counts, Fault, Finished, Order, Placed, Progress, Row, Settings, State, StateCounts,
@@ -106,8 +107,8 @@ fn empty_state(alloc: Global) -> State
         shelf: Table::new(alloc),
         rows: IndexedRows::new(),
         holders: Map::new(),
-        records: Table::new(alloc),
-        orphans: Table::new(alloc),
+        records: Records::new(),
+        orphans: Map::new(),
         marks: Marks::new(),
         documents: Map::new(),
         arrival: 1,
@@ -405,14 +406,13 @@ impl<L: Layers> Catalogue<L> {
     }
 
     /// Makes a record due at once. No memory is taken.
-    pub fn refresh(&mut self, alloc: Global, reference: &Ref) -> Result<(), CoreFault>
+    pub fn refresh(&mut self, reference: &Ref) -> Result<(), CoreFault>
         ensures state { self.new.state ≡ after result self.old.state (step L.rules self.old.settings (Refresh reference.now) self.old.state) }
         ensures settings { self.new.settings ≡ self.old.settings }
         ensures reply { IsReply result (refusal L.rules self.old.settings (Refresh reference.now) self.old.state) tt }
         ensures memory { result ≡ Err CoreFault.NoMemory → ⊥ }
     {
         let fault = refresh(
-            alloc,
             &self.layers,
             &self.ledger.settings,
             reference,

@@ -1,22 +1,23 @@
 //! What is asked of the references that are known, without memory.
-ghost use Rattle.std.specs.Prelude.{◌≡◌, Option, option_map, nat_eq};
-ghost use Rattle.std.specs.declared.option.Option.TheVariants.{None};
-ghost use Rattle.cat_table.specs.Table.{keys, text_cmp};
+ghost use Rattle.std.specs.Prelude.{◌≡◌, option_map, nat_eq};
+ghost use Rattle.cat_table.specs.Table.{first, keys, text_cmp};
 ghost use Rattle.cat_model.specs.Reply.{comes_after, next_known};
 ghost use Rattle.cat_model.specs.Step.{ref_at};
-ghost use Rattle.cat_core.specs.Least.{least, nearer};
+ghost use Rattle.cat_core.specs.Least.{lesser_of};
 ghost use Rattle.cat_core.specs.Numbered.{AreApart, key_where};
 
-use cat_model::types::{Orphan, Record, State};
+use cat_model::records::Records;
+use cat_model::types::{Orphan, State};
 use cat_ref::reference::Ref;
 use cat_table::key::Key;
+use cat_table::map::Map;
 use std::cmp::Ordering;
 
 // The reference of the record with this number.
-fn record_numbered(records: &[(Ref, Record)], number: u64) -> Option<&Ref>
+fn record_numbered(records: &Records, number: u64) -> Option<&Ref>
     ensures { option_map (λ r. r.now) result ≡ key_where (λ x. nat_eq number x.number) records.now }
 {
-    for (reference, kept) in records {
+    for (reference, kept) in records.iter() {
         if number == kept.number {
             return Some(reference);
         }
@@ -25,10 +26,10 @@ fn record_numbered(records: &[(Ref, Record)], number: u64) -> Option<&Ref>
 }
 
 // The reference of the orphan with this number.
-fn orphan_numbered(orphans: &[(Ref, Orphan)], number: u64) -> Option<&Ref>
+fn orphan_numbered(orphans: &Map<Ref, Orphan>, number: u64) -> Option<&Ref>
     ensures { option_map (λ r. r.now) result ≡ key_where (λ x. nat_eq number x.number) orphans.now }
 {
-    for (reference, orphan) in orphans {
+    for (reference, orphan) in orphans.iter() {
         if number == orphan.number {
             return Some(reference);
         }
@@ -41,9 +42,9 @@ pub(crate) fn with_number(m: &State, number: u64) -> Option<&Ref>
     requires { AreApart m.now }
     ensures { option_map (λ r. r.now) result ≡ ref_at m.now number }
 {
-    match record_numbered(m.records.as_slice(), number) {
+    match record_numbered(&m.records, number) {
         Some(reference) => Some(reference),
-        None => orphan_numbered(m.orphans.as_slice(), number),
+        None => orphan_numbered(&m.orphans, number),
     }
 }
 
@@ -56,14 +57,38 @@ fn is_later(after: Option<&Ref>, reference: &Ref) -> bool
     }
 }
 
-// The lesser of the best so far and a reference, which counts only where it passes.
-fn nearer<'a>(passes: bool, reference: &'a Ref, best: Option<&'a Ref>) -> Option<&'a Ref>
-    ensures { option_map (λ r. r.now) result ≡ nearer text_cmp passes reference.now (option_map (λ r. r.now) best.entry) }
+// The first of the records' references that comes after a reference, if there is one.
+fn record_after<'a>(records: &'a Records, after: Option<&Ref>) -> Option<&'a Ref>
+    ensures { option_map (λ r. r.now) result ≡ first (comes_after (option_map (λ r. r.now) after.entry)) (keys records.now) }
 {
-    if !passes {
-        return best;
+    for (reference, _) in records.iter() {
+        if is_later(after, reference) {
+            return Some(reference);
+        }
     }
-    match best {
+    None
+}
+
+// The first of the orphans' references that comes after a reference, if there is one.
+fn orphan_after<'a>(orphans: &'a Map<Ref, Orphan>, after: Option<&Ref>) -> Option<&'a Ref>
+    ensures { option_map (λ r. r.now) result ≡ first (comes_after (option_map (λ r. r.now) after.entry)) (keys orphans.now) }
+{
+    for (reference, _) in orphans.iter() {
+        if is_later(after, reference) {
+            return Some(reference);
+        }
+    }
+    None
+}
+
+// The lesser of two references, or the only one, if there is any.
+fn lesser<'a>(reference: Option<&'a Ref>, other: Option<&'a Ref>) -> Option<&'a Ref>
+    ensures { option_map (λ r. r.now) result ≡ lesser_of text_cmp (option_map (λ r. r.now) reference.entry) (option_map (λ r. r.now) other.entry) }
+{
+    let Some(reference) = reference else {
+        return other;
+    };
+    match other {
         None => Some(reference),
         Some(other) => {
             if reference.compare(other) == Ordering::Greater {
@@ -75,28 +100,14 @@ fn nearer<'a>(passes: bool, reference: &'a Ref, best: Option<&'a Ref>) -> Option
     }
 }
 
-// The least of the keys that come after a reference, if there is one, and of the one found before.
-fn least_in<'a, X>(
-    entries: &'a [(Ref, X)],
-    after: Option<&Ref>,
-    found: Option<&'a Ref>,
-) -> Option<&'a Ref>
-    ensures { option_map (λ r. r.now) result ≡ least text_cmp (comes_after (option_map (λ r. r.now) after.entry)) (keys entries.now) (option_map (λ r. r.now) found.entry) }
-{
-    let mut best = found;
-    let mut left = entries.len();
-    while left > 0 {
-        left -= 1;
-        let reference = &entries[left].0;
-        best = nearer(is_later(after, reference), reference, best);
-    }
-    best
-}
-
 /// The next reference that is a record or an orphan, or the first. No memory is taken.
 pub fn next_of<'a>(m: &'a State, after: Option<&Ref>) -> Option<&'a Ref>
     ensures { option_map (λ r. r.now) result ≡ next_known m.now (option_map (λ r. r.now) after.entry) }
 {
-    let orphan = least_in(m.orphans.as_slice(), after, None);
-    least_in(m.records.as_slice(), after, orphan)
+    m.records.in_order();
+    m.orphans.in_order();
+    lesser(
+        record_after(&m.records, after),
+        orphan_after(&m.orphans, after),
+    )
 }

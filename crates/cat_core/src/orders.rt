@@ -1,8 +1,6 @@
 //! Takes and finishes, with their replies.
-ghost use Rattle.std.specs.Prelude.{◌≡◌, IfOk, IsTrue, Option, option_map};
+ghost use Rattle.std.specs.Prelude.{◌≡◌, IfOk, option_map};
 ghost use Rattle.std.specs.declared.option.Option.TheVariants.{None};
-ghost use Rattle.std.specs.FinMap.Entries.{is_sorted};
-ghost use Rattle.cat_table.specs.Table.{get, text_cmp};
 ghost use Rattle.cat_model.specs.Catalogue.{work};
 ghost use Rattle.cat_model.specs.Reply.{finished, finished_as, taken, token_of};
 ghost use Rattle.cat_model.specs.Sound.{AreSmall};
@@ -65,7 +63,6 @@ pub fn take_first<L: Layers>(
     m: &mut State,
 ) -> Result<(Option<Fault>, Option<Order>), AllocError>
     requires small { AreSmall m.old }
-    requires order { IsTrue (is_sorted text_cmp m.old.records) }
     requires moments { AreMoments settings.now now }
     ensures state { m.new ≡ state_after result (come_to L.rules settings.now (Take now) m.old) m.old }
     ensures fault { IfOk result (λ x. x.0 ≡ came_fault (come_to L.rules settings.now (Take now) m.old)) }
@@ -75,7 +72,7 @@ pub fn take_first<L: Layers>(
         Ok(None) => Ok((None, None)),
         Ok(Some(reference)) => match order_ahead(alloc, layers, m, &reference) {
             Ok(order) => {
-                let fault = take_at(alloc, layers, settings, &reference, now, m);
+                let fault = take_at(layers, settings, &reference, now, m);
                 Ok((fault, order))
             }
             Err(refused) => Err(refused),

@@ -1,13 +1,12 @@
 //! What is asked of a state.
-ghost use Rattle.std.specs.Prelude.{◌≡◌, ◌≤◌, ◌&&◌, cond, nat_lt, IfOk, IsTrue, ℕ, List, Option, Bool, length, option_map};
+ghost use Rattle.std.specs.Prelude.{◌≡◌, IfOk, IsTrue, length, option_map};
 ghost use Rattle.std.specs.declared.option.Option.TheVariants.{Some};
 ghost use Rattle.std.specs.FinMap.Entries.{is_sorted};
 ghost use Rattle.std.specs.List.{filter};
-ghost use Rattle.cat_table.specs.Table.{get, keys, text_cmp};
+ghost use Rattle.cat_table.specs.Table.{keys, text_cmp};
 ghost use Rattle.cat_frame.specs.Linked.{AreLinked, AreRecorded};
-ghost use Rattle.cat_model.specs.Catalogue.{holding};
 ghost use Rattle.cat_model.specs.Reply.{is_leased, is_live, is_quiet, issues_at, next_mark, next_stitch, placed, resting, state_counts};
-ghost use Rattle.cat_model.specs.Settle.{is_due, is_empty, stitch_order};
+ghost use Rattle.cat_model.specs.Settle.{is_due, is_empty};
 ghost use Rattle.cat_model.specs.Sound.{its_number};
 
 use cat_events::done::Stitched;
@@ -15,18 +14,19 @@ use cat_events::present::present_stitch;
 use cat_frame::parts::present_parts;
 use cat_hold::layers::Layers;
 use cat_links::links::Links;
-use cat_model::types::{Lease, Placed, Record, State, StateCounts, StitchOrder};
+use cat_model::records::Records;
+use cat_model::types::{Lease, Placed, State, StateCounts, StitchOrder};
 use cat_ref::reference::Ref;
 use cat_settle::order::due;
 use cat_table::listing::{Copied, Listing};
 use cat_types::issue::Issue;
 use std::alloc::{AllocError, Global};
 
-// Whether none of these entries has a record that is due.
-fn none_due(records: &[(Ref, Record)], now: u64) -> bool
+// Whether none of these records is due.
+fn none_due(records: &Records, now: u64) -> bool
     ensures { result ≡ is_empty (keys (filter (λ e. is_due now (Some e.1)) records.now)) }
 {
-    for (_, kept) in records {
+    for (_, kept) in records.iter() {
         if due(now, Some(kept)) {
             return false;
         }
@@ -39,15 +39,16 @@ pub(crate) fn is_quiet(m: &State, now: u64) -> bool
     requires { IsTrue (is_sorted text_cmp m.now.records) }
     ensures { result ≡ is_quiet m.now now }
 {
-    none_due(m.records.as_slice(), now) && m.marks.len() == 0
+    none_due(&m.records, now) && m.marks.len() == 0
 }
 
-// How many of these entries have a record that is due.
-fn count_due(records: &[(Ref, Record)], now: u64) -> u64
+// How many of these records are due.
+fn count_due(records: &Records, now: u64) -> u64
     ensures { result ≡ length (filter (λ e. is_due now (Some e.1)) records.now) }
 {
+    let _most = records.len();
     let mut count = 0;
-    for (_, kept) in records {
+    for (_, kept) in records.iter() {
         if due(now, Some(kept)) {
             count += 1;
         }
@@ -64,12 +65,13 @@ fn live(now: u64, lease: &Option<Lease>) -> bool
     }
 }
 
-// How many of these entries have a record with a live lease.
-fn count_leased(records: &[(Ref, Record)], now: u64) -> u64
+// How many of these records have a live lease.
+fn count_leased(records: &Records, now: u64) -> u64
     ensures { result ≡ length (filter (λ e. is_leased now (Some e.1)) records.now) }
 {
+    let _most = records.len();
     let mut count = 0;
-    for (_, kept) in records {
+    for (_, kept) in records.iter() {
         if live(now, &kept.lease) {
             count += 1;
         }
@@ -82,8 +84,8 @@ pub(crate) fn counts_of(m: &State, now: u64) -> StateCounts
     requires { IsTrue (is_sorted text_cmp m.now.records) }
     ensures { result ≡ state_counts m.now now }
 {
-    let due = count_due(m.records.as_slice(), now);
-    let leased = count_leased(m.records.as_slice(), now);
+    let due = count_due(&m.records, now);
+    let leased = count_leased(&m.records, now);
     StateCounts {
         records: m.records.len() as u64,
         orphans: m.orphans.len() as u64,

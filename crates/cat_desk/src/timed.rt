@@ -123,7 +123,7 @@ pub fn act<L: Layers>(
         }
         Command::ShelfPut(name, text) => changed(catalogue.shelf_put(alloc, name, text)),
         Command::ShelfDrop(name) => changed(catalogue.shelf_drop(alloc, name)),
-        Command::Refresh(reference) => changed(catalogue.refresh(alloc, reference)),
+        Command::Refresh(reference) => changed(catalogue.refresh(reference)),
         Command::Forget(reference) => changed(catalogue.forget(alloc, reference)),
         Command::ForgetNumber(number) => changed(catalogue.forget_number(alloc, *number)),
         Command::Take => taken(catalogue.take(alloc, now)),

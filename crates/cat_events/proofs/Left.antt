@@ -1,5 +1,5 @@
 -- The items that are left where those of some references go, one after the other.
-use Rattle.std.proofs.Common.{T, ◌≡◌, Bool, true, false, cond, not, ◌||◌, List, [], ◌∷◌, refl, sym, ap, ◌∙◌}
+use Rattle.std.proofs.Common.{T, ◌≡◌, Bool, true, false, cond, not, ◌||◌, List, [], ◌∷◌, refl, sym, ap, ◌∙◌, true≢false}
 use Rattle.std.specs.declared.option.Option.{Option}
 use Rattle.std.specs.declared.option.Option.TheVariants.{None, Some}
 use Rattle.std.specs.Option.{option_and_then}
@@ -11,7 +11,10 @@ use Rattle.cat_table.specs.Rows as spec
 use Rattle.cat_types.specs.Amended.{without_all}
 use Rattle.cat_model.specs.Catalogue.{Offers}
 use Rattle.cat_model.specs.Step.{without}
-use Rattle.cat_events.proofs.Replaced.{to_T}
+
+to_T : (b : Bool) → b ≡ true → T b
+to_T true h = tt
+to_T false h = absurd (true≢false (sym h))
 
 same_sym : (q r : Text) → same_text q r ≡ same_text r q
 same_sym q r = go (same_text q r) refl (same_text r q) refl

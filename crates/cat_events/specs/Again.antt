@@ -20,11 +20,6 @@ abbrev pub is_present_order : Rules → State → Order → Option Record → Bo
 is_present_order rules m order None = false
 is_present_order rules m order (Some x) = is_present rules m order x
 
--- the record of a reference, if there is one, gets this lease, and a due moment if one is given
-abbrev pub rerecorded_at : Ref → Option ℕ → Option Lease → Option Record → Map Record → Map Record
-rerecorded_at r due lease None records = records
-rerecorded_at r due lease (Some x) records = put text_cmp r (record x { due = unwrap_or due x.due; lease = lease }) records
-
 -- ---- results that offer what was offered
 
 -- whether this is offered again just as it was

@@ -1,44 +1,43 @@
 //! A plan is made to stand: its room is taken first, and then nothing can fail.
-ghost use Rattle.std.specs.Prelude.{◌≡◌, [], is_ok, if◌then◌else◌, IfOk, IsTrue};
-ghost use Rattle.std.specs.FinMap.Entries.{is_sorted};
-ghost use Rattle.cat_table.specs.Table.{text_cmp};
+ghost use Rattle.std.specs.Prelude.{◌≡◌, is_ok, if◌then◌else◌, IfOk};
 ghost use Rattle.cat_frame.specs.Amended.{amended};
-ghost use Rattle.cat_model.specs.Sound.{AreOrdered};
 ghost use Rattle.cat_events.specs.Planned.{given_by, planned, with_marks, with_orphans, with_records, without_documents};
 
 use crate::plan::{Inputs, Plan};
 use cat_claims::types::Claimed;
 use cat_frame::amended::Amendment;
 use cat_links::links::Links;
+use cat_model::records::ready;
 use cat_model::types::{Orphan, Record, State};
 use cat_ref::reference::Ref;
 use cat_table::listing::Listing;
 use cat_table::map::Map;
-use cat_types::node::Node;
-use cat_types::table::Table;
+use cat_table::tree::MOST;
 use std::alloc::{AllocError, Global};
-use std::mem;
 
-// The documents without those of some references. What stays is shared.
-fn documents_left(
+// A map without the entries of some references, and then with others put. What stays is shared.
+fn amended_map<X: Drop>(
     alloc: Global,
-    documents: &Map<Ref, Node>,
+    map: &Map<Ref, X>,
+    put: Vec<(Ref, X)>,
     gone: &[Ref],
-) -> Result<Map<Ref, Node>, AllocError>
-    ensures { IfOk result (λ left. left ≡ amended [] gone.now documents.now) }
+) -> Result<Map<Ref, X>, AllocError>
+    ensures { IfOk result (λ next. next ≡ amended put.items gone.now map.now) }
 {
-    let mut left = documents.share()?;
+    let mut next = map.share()?;
     for reference in gone {
-        left.remove(alloc, reference)?;
+        next.remove(alloc, reference)?;
     }
-    Ok(left)
+    next.put_all(alloc, put)?;
+    Ok(next)
 }
 
 // The documents of some references go.
 fn amend_documents(alloc: Global, gone: Listing<Ref>, state: &mut State) -> Result<(), AllocError>
     ensures { state.new ≡ (if is_ok result then without_documents gone state.old else state.old) }
 {
-    state.documents = documents_left(alloc, &state.documents, gone.as_slice())?;
+    let none = Vec::new(alloc);
+    state.documents = amended_map(alloc, &state.documents, none, gone.as_slice())?;
     Ok(())
 }
 
@@ -67,29 +66,15 @@ fn amend_orphans(
     gone: Listing<Ref>,
     state: &mut State,
 ) -> Result<(), AllocError>
-    requires { AreOrdered state.old }
     ensures { state.new ≡ (if is_ok result then with_orphans orphans marks gone state.old else state.old) }
 {
-    let before = mem::replace(&mut state.orphans, Table::new(alloc));
-    match before.ready(alloc, orphans.put, orphans.gone) {
-        Ok(ready) => match amend_marks(alloc, marks, gone, state) {
-            Ok(()) => {
-                state.orphans = ready.after();
-                Ok(())
-            }
-            Err(refused) => {
-                state.orphans = ready.before();
-                Err(refused)
-            }
-        },
-        Err(before) => {
-            state.orphans = before;
-            Err(AllocError)
-        }
-    }
+    let after = amended_map(alloc, &state.orphans, orphans.put, orphans.gone.as_slice())?;
+    amend_marks(alloc, marks, gone, state)?;
+    state.orphans = after;
+    Ok(())
 }
 
-// Records are amended where all other tables could be.
+// Records are amended where all other tables could be. Their memory is taken before.
 fn amend_records(
     alloc: Global,
     records: Amendment<Record>,
@@ -98,27 +83,15 @@ fn amend_records(
     gone: Listing<Ref>,
     state: &mut State,
 ) -> Result<(), AllocError>
-    requires ordered { AreOrdered state.old }
-    requires records { IsTrue (is_sorted text_cmp state.old.records) }
     ensures { state.new ≡ (if is_ok result then with_records records orphans marks gone state.old else state.old) }
 {
-    let before = mem::replace(&mut state.records, Table::new(alloc));
-    match before.ready(alloc, records.put, records.gone) {
-        Ok(ready) => match amend_orphans(alloc, orphans, marks, gone, state) {
-            Ok(()) => {
-                state.records = ready.after();
-                Ok(())
-            }
-            Err(refused) => {
-                state.records = ready.before();
-                Err(refused)
-            }
-        },
-        Err(before) => {
-            state.records = before;
-            Err(AllocError)
-        }
+    let ready = ready(alloc, records.put)?;
+    if ready.len() > MOST - state.records.len() {
+        return Err(AllocError);
     }
+    amend_orphans(alloc, orphans, marks, gone, state)?;
+    state.records.amend(ready, records.gone.as_slice());
+    Ok(())
 }
 
 // The inputs and the claims of a plan are taken in. Takes no memory.
@@ -154,8 +127,6 @@ pub fn applied(
     state: &mut State,
     links: &mut Links,
 ) -> Result<(), AllocError>
-    requires ordered { AreOrdered state.old }
-    requires records { IsTrue (is_sorted text_cmp state.old.records) }
     ensures state { state.new ≡ (if is_ok result then planned plan state.old else state.old) }
     ensures links { links.new ≡ (if is_ok result then plan.following.links.after else links.old) }
 {

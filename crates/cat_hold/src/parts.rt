@@ -8,13 +8,13 @@ ghost use Rattle.cat_model.specs.Catalogue.{emits, from_source, output_of, same_
 use crate::build::{Gives, Passes, filtered, tabulated};
 use crate::hold::row_of;
 use crate::layers::Layers;
-use cat_model::types::{Record, State};
+use cat_model::records::Records;
+use cat_model::types::State;
 use cat_ref::reference::Ref;
 use cat_table::key::Key;
 use cat_table::listing::{Copied, Listing};
 use cat_types::parts::Parts;
 use cat_types::relation::Relation;
-use cat_types::table::Table;
 use cat_types::work::Work;
 use std::alloc::{AllocError, Global};
 use std::cmp::Ordering;
@@ -79,7 +79,7 @@ pub fn same_work_of<L: Layers>(
 pub fn emitted_by<L: Layers>(
     alloc: Global,
     layers: &L,
-    records: &Table<Ref, Record>,
+    records: &Records,
     reference: &Ref,
 ) -> Result<Listing<Relation>, AllocError>
     ensures { IfOk result (λ l. l ≡ emits L.rules reference.now (output_of records.now reference.now)) }

@@ -1,5 +1,6 @@
 pub mod SentTrees
 pub mod SentMaps
+pub mod SentOwned
 pub mod SentStates
 pub mod SentTurns
 pub mod SentBooks

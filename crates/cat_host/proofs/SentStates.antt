@@ -25,12 +25,16 @@ use Rattle.cat_marks.specs.contracts.marks.Marks as Marks
 use Rattle.cat_marks.specs.contracts.marks.Marks.TheInside as marked
 use Rattle.cat_model.specs.contracts.rows.IndexedRows as IndexedRows
 use Rattle.cat_model.specs.contracts.rows.IndexedRows.TheInside as indexed
+use Rattle.cat_model.specs.contracts.records.Records as Records
+use Rattle.cat_model.specs.contracts.records.Records.TheInside as recorded
+use Rattle.cat_model.specs.contracts.types.Orphan as Orphan
 use Rattle.cat_model.specs.contracts.types.ProviderInputs as ProviderInputs
 use Rattle.cat_model.specs.contracts.types.Record as Record
 use Rattle.cat_model.specs.contracts.types.Row as Row
 use Rattle.cat_model.specs.contracts.types.State as State
 use Rattle.cat_host.proofs.SentTrees.{Tree-send, Tree-sync}
 use Rattle.cat_host.proofs.SentMaps as shared
+use Rattle.cat_host.proofs.SentOwned.{Owned-send}
 
 pub node_send : IsSend Node.the_row
 node_send = view_send _ _ _ _ _ (declared_send inside.the_type (Arc-send Tree.the_row Tree-send Tree-sync, tt))
@@ -100,6 +104,18 @@ marks_send = view_send _ _ _ _ _ (declared_send marked.the_type (
   (search (Map-send, entry_send, entry_sync, known) depth 60, tt),
 ))
 
+orphan_send : IsSend Orphan.the_row
+orphan_send = search known depth 60
+
+orphan_sync : IsSync Orphan.the_row
+orphan_sync = search known depth 60
+
+records_send : IsSend Records.the_row
+records_send = view_send _ _ _ _ _ (declared_send recorded.the_type (
+  search (Owned-send, record_send, known) depth 60,
+  (search (Owned-send, entry_send, known) depth 60, tt),
+))
+
 pub state_send : IsSend State.the_row
 state_send = declared_send State.the_type (
   search (inputs_send, known) depth 60,
@@ -110,9 +126,9 @@ state_send = declared_send State.the_type (
       (
         search (Map-send, known) depth 60,
         (
-          search (record_send, known) depth 60,
+          search (records_send, known) depth 60,
           (
-            search known depth 60,
+            search (Map-send, orphan_send, orphan_sync, known) depth 60,
             (
               search (marks_send, known) depth 60,
               (

@@ -28,13 +28,13 @@ both_tie Less p = refl
 both_tie Equal p = refl
 both_tie Greater p = refl
 
-same_ticket : (t u : ℕ) (r q : Text) → eq_by_cmp ticket_cmp (t, r) (u, q) ≡ (eq_by_cmp nat_cmp t u && same_text r q)
+pub same_ticket : (t u : ℕ) (r q : Text) → eq_by_cmp ticket_cmp (t, r) (u, q) ≡ (eq_by_cmp nat_cmp t u && same_text r q)
 same_ticket t u r q = both_tie (nat_cmp t u) (text_cmp r q)
 
-turned_number : (t u : ℕ) → eq_by_cmp nat_cmp t u ≡ eq_by_cmp nat_cmp u t
+pub turned_number : (t u : ℕ) → eq_by_cmp nat_cmp t u ≡ eq_by_cmp nat_cmp u t
 turned_number t u = let e = eq_by_cmp_equiv nat_cmp_total in e.symm t u
 
-turned_text : (r q : Text) → same_text r q ≡ same_text q r
+pub turned_text : (r q : Text) → same_text r q ≡ same_text q r
 turned_text r q = let e = eq_by_cmp_equiv text_total in e.symm r q
 
 module _ (marks : List Mark) (tickets : Tickets) (i : IsIndexed marks tickets) where

@@ -15,13 +15,13 @@ use Rattle.cat_table.proofs.Tables.{and_first, and_second, same_is, same_self, t
 use Rattle.cat_marks.specs.Marks.{IsIndexed, Mark, Tickets, is_ticket, least_above, lesser_ticket, ticket_cmp}
 use Rattle.cat_marks.proofs.Indexed.{ticket_antisymmetric, ticket_total}
 
-same_some : {A : Type 0} (x y : A) → Some x ≡ Some y → x ≡ y
+pub same_some : {A : Type 0} (x y : A) → Some x ≡ Some y → x ≡ y
 same_some x y e = ap (λ v. unwrap_or v x) e
 
-some_none : {A B : Type 0} (x : A) → Some x ≡ None → B
+pub some_none : {A B : Type 0} (x : A) → Some x ≡ None → B
 some_none x e = absurd (true≢false (ap is_some e))
 
-less_is : (o : Ordering) → is_lt o ≡ true → o ≡ Less
+pub less_is : (o : Ordering) → is_lt o ≡ true → o ≡ Less
 less_is Less e = refl
 less_is Equal e = absurd (true≢false (sym e))
 less_is Greater e = absurd (true≢false (sym e))
@@ -29,7 +29,7 @@ less_is Greater e = absurd (true≢false (sym e))
 -- ---- the first entry from a key on, in any order
 
 -- what is neither above nor below is the same
-level : {K : Type 0} {R : K → K → Ordering} → IsTotalOrder R → IsAntisymmetric R → (x y : K) → is_gt (R x y) ≡ false → is_gt (R y x) ≡ false → x ≡ y
+pub level : {K : Type 0} {R : K → K → Ordering} → IsTotalOrder R → IsAntisymmetric R → (x y : K) → is_gt (R x y) ≡ false → is_gt (R y x) ≡ false → x ≡ y
 level {R = R} o s x y p q = s x y (go (R x y) p (R y x) q (o.antisymm x y))
   where
     go : (a : Ordering) → is_gt a ≡ false → (b : Ordering) → is_gt b ≡ false → a ≡ ordering_reverse b → a ≡ Equal
@@ -80,7 +80,7 @@ module _ {K X : Type 0} {R : K → K → Ordering} (o : IsTotalOrder R) (s : IsA
 -- ---- the order of tickets
 
 -- one of the three
-two_numbers : (x y : ℕ) → (x < y) ⊎ ((x ≡ y) ⊎ (y < x))
+pub two_numbers : (x y : ℕ) → (x < y) ⊎ ((x ≡ y) ⊎ (y < x))
 two_numbers x y = go (nat_cmp x y) (ranks x y)
   where
     go : (r : Ordering) → MatchOrdering r (x < y) (x ≡ y) (y < x) → (x < y) ⊎ ((x ≡ y) ⊎ (y < x))
@@ -88,13 +88,13 @@ two_numbers x y = go (nat_cmp x y) (ranks x y)
     go Equal h = inr (inl h)
     go Greater h = inr (inr h)
 
-lower : (t u : ℕ) (r q : Text) → t < u → is_gt (ticket_cmp (t, r) (u, q)) ≡ false
+pub lower : (t u : ℕ) (r q : Text) → t < u → is_gt (ticket_cmp (t, r) (u, q)) ≡ false
 lower t u r q h = ap (λ c. is_gt (ordering_then c (text_cmp r q))) (sym (nat_cmp_is t u Less h))
 
-equally_low : (t u : ℕ) (r q : Text) → t ≡ u → is_gt (text_cmp r q) ≡ false → is_gt (ticket_cmp (t, r) (u, q)) ≡ false
+pub equally_low : (t u : ℕ) (r q : Text) → t ≡ u → is_gt (text_cmp r q) ≡ false → is_gt (ticket_cmp (t, r) (u, q)) ≡ false
 equally_low t u r q e h = ap (λ c. is_gt (ordering_then c (text_cmp r q))) (sym (nat_cmp_is t u Equal e)) ∙ h
 
-not_higher : (t u : ℕ) (r q : Text) → is_gt (ticket_cmp (t, r) (u, q)) ≡ false → t ≤ u
+pub not_higher : (t u : ℕ) (r q : Text) → is_gt (ticket_cmp (t, r) (u, q)) ≡ false → t ≤ u
 not_higher t u r q h = go (two_numbers t u)
   where
     go : (t < u) ⊎ ((t ≡ u) ⊎ (u < t)) → t ≤ u
@@ -102,16 +102,16 @@ not_higher t u r q h = go (two_numbers t u)
     go (inr (inl e)) = omega arith
     go (inr (inr g)) = absurd (true≢false (ap (λ c. is_gt (ordering_then c (text_cmp r q))) (nat_cmp_is t u Greater g) ∙ h))
 
-lt_true : (x y : ℕ) → x < y → nat_lt x y ≡ true
+pub lt_true : (x y : ℕ) → x < y → nat_lt x y ≡ true
 lt_true x y h = grind (arith, nat_tests)
 
-lt_from : (x y : ℕ) → nat_lt x y ≡ true → x < y
+pub lt_from : (x y : ℕ) → nat_lt x y ≡ true → x < y
 lt_from x y h = grind (arith, nat_tests)
 
-le_from : (x y : ℕ) → nat_le x y ≡ true → x ≤ y
+pub le_from : (x y : ℕ) → nat_le x y ≡ true → x ≤ y
 le_from x y h = grind (arith, nat_tests)
 
-le_not : (x y : ℕ) → nat_le x y ≡ false → y < x
+pub le_not : (x y : ℕ) → nat_le x y ≡ false → y < x
 le_not x y h = grind (arith, nat_tests)
 
 -- ---- the mark with the least ticket above another

@@ -1,1 +1,3 @@
 pub mod Indexed
+pub mod Dues
+pub mod Soonest

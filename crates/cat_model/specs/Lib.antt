@@ -1,4 +1,5 @@
 pub mod Rows
+pub mod Dues
 pub mod Catalogue
 pub mod Given
 pub mod Step

@@ -5,6 +5,7 @@ use Rattle.std.specs.declared.option.Option.TheVariants.{None, Some}
 use Rattle.std.specs.Option.{option_map}
 use Rattle.std.specs.Ordering.{nat_cmp}
 use Rattle.std.specs.List.{list_any, filter}
+pub use Rattle.cat_model.specs.Dues.{is_free, may_take}
 pub use Rattle.cat_model.specs.declared.types.Numbered.{Numbered}
 pub use Rattle.cat_model.specs.declared.types.Settings.{Settings}
 pub use Rattle.cat_model.specs.declared.types.Given.{Given}
@@ -184,16 +185,6 @@ take s r now m (Some x) =
 abbrev pub due_at : Option Record → ℕ
 due_at None = 0
 due_at (Some x) = x.due
-
--- whether there is no lease, or one that has lapsed
-abbrev pub is_free : ℕ → Option Lease → Bool
-is_free now None = true
-is_free now (Some lease) = nat_le lease.expires now
-
--- whether a record is due and has no live lease
-abbrev pub may_take : ℕ → Option Record → Bool
-may_take now None = false
-may_take now (Some x) = nat_le x.due now && is_free now x.lease
 
 -- the first of two in order of due moment, and then of place
 abbrev pub earlier : State → Ref → Option Ref → Option Ref

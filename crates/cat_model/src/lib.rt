@@ -5,5 +5,6 @@
 //! changed where a layer changes. What always holds of it is proved in cat_laws.
 #![tactic(auto)]
 
+pub mod records;
 pub mod rows;
 pub mod types;

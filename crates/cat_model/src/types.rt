@@ -1,4 +1,5 @@
 //! What the catalogue is made of, and what it answers. In contracts each of these is the record or the list of its values.
+use crate::records::Records;
 use crate::rows::IndexedRows;
 use cat_items::items::OfferedItems;
 use cat_marks::marks::Marks;
@@ -84,8 +85,8 @@ pub struct State {
     pub shelf: Table<Text, Text>,
     pub rows: IndexedRows,
     pub holders: Map<Ref, u64>,
-    pub records: Table<Ref, Record>,
-    pub orphans: Table<Ref, Orphan>,
+    pub records: Records,
+    pub orphans: Map<Ref, Orphan>,
     pub marks: Marks,
     pub documents: Map<Ref, Node>,
     pub arrival: u64,
@@ -293,7 +294,7 @@ impl Copied for State {
         let rows = self.rows.share()?;
         let holders = self.holders.share()?;
         let records = self.records.duplicate(alloc)?;
-        let orphans = self.orphans.duplicate(alloc)?;
+        let orphans = self.orphans.share()?;
         let marks = self.marks.share()?;
         let documents = self.documents.share()?;
         Ok(State {

@@ -5,8 +5,9 @@ ghost use Rattle.cat_opening.specs.Forms as spec;
 ghost use Rattle.cat_table.specs.Table.{keys};
 
 use crate::entity::{is_entity, may_be_given};
+use cat_model::records::Records;
 use cat_model::rows::IndexedRows;
-use cat_model::types::{Orphan, ProviderInputs, Record, State};
+use cat_model::types::{Orphan, ProviderInputs, State};
 use cat_ref::reference::Ref;
 use cat_table::listing::Copied;
 use cat_table::map::Map;
@@ -78,10 +79,10 @@ fn is_output(alloc: Global, reference: &Ref, output: &Option<Output>) -> Result<
     }
 }
 
-fn are_kept(alloc: Global, records: &[(Ref, Record)]) -> Result<bool, AllocError>
+fn are_kept(alloc: Global, records: &Records) -> Result<bool, AllocError>
     ensures { IfOk result (λ b. b ≡ list_all spec.is_kept records.now) }
 {
-    for (reference, kept) in records {
+    for (reference, kept) in records.iter() {
         if !is_output(alloc, reference, &kept.output)? {
             return Ok(false);
         }
@@ -89,10 +90,10 @@ fn are_kept(alloc: Global, records: &[(Ref, Record)]) -> Result<bool, AllocError
     Ok(true)
 }
 
-fn are_left(alloc: Global, orphans: &[(Ref, Orphan)]) -> Result<bool, AllocError>
+fn are_left(alloc: Global, orphans: &Map<Ref, Orphan>) -> Result<bool, AllocError>
     ensures { IfOk result (λ b. b ≡ list_all spec.is_left orphans.now) }
 {
-    for (reference, orphan) in orphans {
+    for (reference, orphan) in orphans.iter() {
         if !is_entity(alloc, &orphan.entity, reference)? {
             return Ok(false);
         }
@@ -108,7 +109,7 @@ pub fn has_forms(alloc: Global, m: &State) -> Result<bool, AllocError>
 {
     let are_sources = are_sources(m.providers.as_slice());
     let are_given = are_given(alloc, &m.rows)?;
-    let are_kept = are_kept(alloc, m.records.as_slice())?;
-    let are_left = are_left(alloc, m.orphans.as_slice())?;
+    let are_kept = are_kept(alloc, &m.records)?;
+    let are_left = are_left(alloc, &m.orphans)?;
     Ok(are_sources && are_given && are_kept && are_left)
 }

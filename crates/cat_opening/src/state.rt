@@ -7,6 +7,7 @@ ghost use Rattle.cat_table.specs.Table.{get, put, puts, text_cmp};
 
 use cat_items::items::OfferedItems;
 use cat_marks::marks::Marks;
+use cat_model::records::Records;
 use cat_model::rows::IndexedRows;
 use cat_model::types::{Origin, Orphan, OrphanRule, ProviderInputs, Record, Row, State};
 use cat_ref::reference::Ref;
@@ -38,8 +39,8 @@ pub fn empty_state(alloc: Global) -> State
         shelf: Table::new(alloc),
         rows: IndexedRows::new(),
         holders: Map::new(),
-        records: Table::new(alloc),
-        orphans: Table::new(alloc),
+        records: Records::new(),
+        orphans: Map::new(),
         marks: Marks::new(),
         documents: Map::new(),
         arrival: 1,
@@ -535,7 +536,7 @@ fn kept_in(
 // Puts a record.
 fn put_record(
     alloc: Global,
-    made: &mut Table<Ref, Record>,
+    made: &mut Records,
     trees: &Trees,
     row: &StoredRow,
 ) -> Result<(), AllocError>
@@ -551,7 +552,7 @@ fn put_record(
         } => {
             let output = kept_in(alloc, trees, output)?;
             let kept = recorded(alloc, issues, *number, output)?;
-            made.put(reference.duplicate(alloc)?, kept)
+            made.put(alloc, reference.duplicate(alloc)?, kept)
         }
         StoredRow::RecordOne {
             reference,
@@ -562,7 +563,7 @@ fn put_record(
         } => {
             let output = output_in(alloc, trees, output)?;
             let kept = recorded(alloc, issues, *number, Some(output))?;
-            made.put(reference.duplicate(alloc)?, kept)
+            made.put(alloc, reference.duplicate(alloc)?, kept)
         }
         StoredRow::Counter(..)
         | StoredRow::Provider { .. }
@@ -577,25 +578,17 @@ fn put_record(
 
 // The records, each due at once and free.
 #[tactic(auto, using(crate::proofs::Putting::puts_parts))]
-fn records_of(
-    alloc: Global,
-    trees: &Trees,
-    rows: &[StoredRow],
-) -> Result<Table<Ref, Record>, AllocError>
+fn records_of(alloc: Global, trees: &Trees, rows: &[StoredRow]) -> Result<Records, AllocError>
     ensures { IfOk result (λ made. made ≡ spec.records_of trees.now rows.now) }
 {
-    let mut made = Table::new(alloc);
+    let mut made = Records::new();
     for row in rows {
         put_record(alloc, &mut made, trees, row)?;
     }
     Ok(made)
 }
 
-fn put_orphan(
-    alloc: Global,
-    made: &mut Table<Ref, Orphan>,
-    row: &StoredRow,
-) -> Result<(), AllocError>
+fn put_orphan(alloc: Global, made: &mut Map<Ref, Orphan>, row: &StoredRow) -> Result<(), AllocError>
     ensures { OnOk result (made.new ≡ puts text_cmp (spec.orphan_in row.now) made.old) }
 {
     match row {
@@ -609,7 +602,7 @@ fn put_orphan(
                 number: *number,
                 entity,
             };
-            made.put(reference.duplicate(alloc)?, orphan)
+            made.put(alloc, reference.duplicate(alloc)?, orphan)
         }
         StoredRow::Counter(..)
         | StoredRow::Provider { .. }
@@ -624,10 +617,10 @@ fn put_orphan(
 }
 
 #[tactic(auto, using(crate::proofs::Putting::puts_parts))]
-fn orphans_of(alloc: Global, rows: &[StoredRow]) -> Result<Table<Ref, Orphan>, AllocError>
+fn orphans_of(alloc: Global, rows: &[StoredRow]) -> Result<Map<Ref, Orphan>, AllocError>
     ensures { IfOk result (λ made. made ≡ spec.orphans_of rows.now) }
 {
-    let mut made = Table::new(alloc);
+    let mut made = Map::new();
     for row in rows {
         put_orphan(alloc, &mut made, row)?;
     }

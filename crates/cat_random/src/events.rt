@@ -81,7 +81,7 @@ fn ask_for(
     match draws.below(3) {
         0 => Ok(outcome(catalogue.forget(alloc, &reference))),
         1 => Ok(outcome(catalogue.forget_number(alloc, draws.below(20)))),
-        _ => Ok(outcome(catalogue.refresh(alloc, &reference))),
+        _ => Ok(outcome(catalogue.refresh(&reference))),
     }
 }
 

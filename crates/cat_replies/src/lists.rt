@@ -8,15 +8,16 @@ ghost use Rattle.cat_replies.specs.Lists as spec;
 ghost use Rattle.cat_replies.specs.Shown as seen;
 
 use crate::conflicts::{Conflict, conflicts};
+use cat_model::records::Records;
 use cat_model::types::{Origin, Orphan, Record, Row, State};
 use cat_ref::reference::Ref;
 use cat_stitch::issues::issue_items;
 use cat_stitch::make::{empty_map, with_words, words};
+use cat_table::map::Map;
 use cat_tree::edit::with_key;
 use cat_tree::tree::{Tree, Trees};
 use cat_tree::write::write;
 use cat_types::issue::{Issue, Level};
-use cat_types::table::Table;
 use std::alloc::{AllocError, Global};
 
 /// Appends a document.
@@ -31,28 +32,24 @@ pub fn push_document(alloc: Global, out: &mut Vec<u8>, document: &Tree) -> Resul
 pub fn push_orphans(
     alloc: Global,
     out: &mut Vec<u8>,
-    orphans: &Table<Ref, Orphan>,
+    orphans: &Map<Ref, Orphan>,
 ) -> Result<(), AllocError>
     ensures ok { OnOk result (out.new.items
         ≡ out.old.items ++ text_of (spec.orphans_listed orphans.now)) }
     ensures err { OnErr result (out.new.items ≡ out.old.items) }
 {
-    let tree = orphans_listed(alloc, orphans.as_slice())?;
+    let tree = orphans_listed(alloc, orphans)?;
     write(alloc, &tree, out)
 }
 
 /// Appends the list of the records that have an issue of level error, in order of reference, each with all its status
 /// items.
-pub fn push_failures(
-    alloc: Global,
-    out: &mut Vec<u8>,
-    records: &Table<Ref, Record>,
-) -> Result<(), AllocError>
+pub fn push_failures(alloc: Global, out: &mut Vec<u8>, records: &Records) -> Result<(), AllocError>
     ensures ok { OnOk result (out.new.items
         ≡ out.old.items ++ text_of (spec.failures_listed records.now)) }
     ensures err { OnErr result (out.new.items ≡ out.old.items) }
 {
-    let tree = failures_listed(alloc, records.as_slice())?;
+    let tree = failures_listed(alloc, records)?;
     write(alloc, &tree, out)
 }
 
@@ -68,21 +65,21 @@ pub fn push_conflicts(alloc: Global, out: &mut Vec<u8>, state: &State) -> Result
     write(alloc, &tree, out)
 }
 
-fn orphans_listed(alloc: Global, orphans: &[(Ref, Orphan)]) -> Result<Tree, AllocError>
+fn orphans_listed(alloc: Global, orphans: &Map<Ref, Orphan>) -> Result<Tree, AllocError>
     ensures { IfOk result (λ t. data_of t ≡ spec.orphans_listed orphans.now) }
 {
     let mut trees = Vec::with_capacity(alloc, orphans.len())?;
-    for (reference, _) in orphans {
+    for (reference, _) in orphans.iter() {
         trees.push(words(alloc, reference.as_str())?)?;
     }
     Ok(Tree::List(Trees::from_vec(trees)))
 }
 
-fn failures_listed(alloc: Global, records: &[(Ref, Record)]) -> Result<Tree, AllocError>
+fn failures_listed(alloc: Global, records: &Records) -> Result<Tree, AllocError>
     ensures { IfOk result (λ t. data_of t ≡ spec.failures_listed records.now) }
 {
     let mut trees = Vec::new(alloc);
-    for (reference, record) in records {
+    for (reference, record) in records.iter() {
         push_failure(alloc, &mut trees, reference, record)?;
     }
     Ok(Tree::List(Trees::from_vec(trees)))

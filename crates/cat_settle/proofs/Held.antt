@@ -45,9 +45,9 @@ module _ {K X : Type 0} {R : K → K → Ordering} (o : IsTotalOrder R) (s : IsA
   are_held m h = behind [] m h
 
   -- in order, the keys of the entries whose values pass are those under which such values are found
-  pub keys_in_order : (p : Option X → Bool) (m : List (K × X)) → is_sorted R m ≡ true → (es : List (K × X)) → es ≡ m → keys (filter (λ e. p (Some e.1)) es) ≡ filter (λ k. p (find R k m)) (keys m)
-  keys_in_order p m h es is = ap (λ l. keys (filter (λ e. p (Some e.1)) l)) is ∙ sym (filter_held R p m m (are_held m h))
+  pub keys_in_order : (p : Option X → Bool) (m : List (K × X)) → is_sorted R m ≡ true → keys (filter (λ e. p (Some e.1)) m) ≡ filter (λ k. p (find R k m)) (keys m)
+  keys_in_order p m h = sym (filter_held R p m m (are_held m h))
 
   -- and they are as many
-  pub count_in_order : (p : Option X → Bool) (m : List (K × X)) → is_sorted R m ≡ true → (es : List (K × X)) → es ≡ m → length (filter (λ e. p (Some e.1)) es) ≡ length (filter (λ k. p (find R k m)) (keys m))
-  count_in_order p m h es is = sym (length-map (filter (λ e. p (Some e.1)) es) (λ (e : K × X). e.0)) ∙ ap length (keys_in_order p m h es is)
+  pub count_in_order : (p : Option X → Bool) (m : List (K × X)) → is_sorted R m ≡ true → length (filter (λ e. p (Some e.1)) m) ≡ length (filter (λ k. p (find R k m)) (keys m))
+  count_in_order p m h = sym (length-map (filter (λ e. p (Some e.1)) m) (λ (e : K × X). e.0)) ∙ ap length (keys_in_order p m h)

@@ -17,6 +17,7 @@ use cat_frame::parts::present_parts;
 use cat_hold::layers::Layers;
 use cat_hold::parts::work_of;
 use cat_links::links::Links;
+use cat_model::records::Records;
 use cat_model::types::{Fault, Lease, Order, Progress, Record, State, StitchOrder, Stop};
 use cat_ref::reference::Ref;
 use cat_table::listing::{Copied, Listing};
@@ -156,11 +157,11 @@ pub fn due(now: u64, kept: Option<&Record>) -> bool
 }
 
 // The keys of the entries whose records are due. Each record is looked at, and only what is due is copied.
-fn keys_due(alloc: Global, now: u64, records: &[(Ref, Record)]) -> Result<Listing<Ref>, AllocError>
+fn keys_due(alloc: Global, now: u64, records: &Records) -> Result<Listing<Ref>, AllocError>
     ensures { IfOk result (λ l. l ≡ keys (filter (λ e. is_due now (Some e.1)) records.now)) }
 {
     let mut refs = Vec::new(alloc);
-    for (reference, kept) in records {
+    for (reference, kept) in records.iter() {
         if due(now, Some(kept)) {
             refs.push(reference.duplicate(alloc)?)?;
         }
@@ -173,6 +174,6 @@ pub(crate) fn refs_due(alloc: Global, now: u64, m: &State) -> Result<Listing<Ref
     requires { IsTrue (is_sorted text_cmp m.now.records) }
     ensures { IfOk result (λ l. l ≡ due_refs now m.now) }
 {
-    let refs = keys_due(alloc, now, m.records.as_slice())?;
+    let refs = keys_due(alloc, now, &m.records)?;
     Ok(refs)
 }

@@ -20,20 +20,13 @@ use cat_ref::reference::Ref;
 use std::alloc::{AllocError, Global};
 
 // A record is taken, which is counted or stops the settle. The links are as before.
-fn taken<L: Layers>(
-    alloc: Global,
-    layers: &L,
-    settings: &Settings,
-    now: u64,
-    reference: &Ref,
-    p: &mut Progress,
-)
+fn taken<L: Layers>(layers: &L, settings: &Settings, now: u64, reference: &Ref, p: &mut Progress)
     requires sound { Sound L.rules p.old.state }
     requires small { AreSmall p.old.state }
     requires moments { AreMoments settings.now now }
     ensures { p.new ≡ moved (TakeAt reference.now now) (come_to L.rules settings.now (TakeAt reference.now now) p.old.state) p.old }
 {
-    let came = take_at(alloc, layers, settings, reference, now, &mut p.state);
+    let came = take_at(layers, settings, reference, now, &mut p.state);
     lease_noted(came, p);
 }
 
@@ -58,7 +51,7 @@ fn take_tried<L: Layers>(
     if p.events >= MOST_EVENTS {
         return Err(AllocError);
     }
-    taken(alloc, layers, settings, now, reference, p);
+    taken(layers, settings, now, reference, p);
     Ok(())
 }
 

@@ -9,7 +9,6 @@ use crate::offers::{RowIndex, are_all_items_shown, are_offers_shown, are_right_r
 use cat_hold::hold::is_held;
 use cat_model::types::{Orphan, Record, State};
 use cat_ref::reference::Ref;
-use cat_table::map::rise;
 use std::alloc::{AllocError, Global};
 
 const MOST: u64 = 1 << 59;
@@ -39,7 +38,7 @@ fn is_right_record(
 fn are_right_records(m: &State, index: &RowIndex, names: &Names) -> bool
     ensures { result ≡ list_all (spec.is_right_record m.now index.now names.now) m.now.records }
 {
-    for (reference, kept) in m.records.as_slice() {
+    for (reference, kept) in m.records.iter() {
         if !is_right_record(m, index, names, reference, kept) {
             return false;
         }
@@ -56,7 +55,7 @@ fn is_right_orphan(m: &State, names: &Names, reference: &Ref, orphan: &Orphan) -
 fn are_right_orphans(m: &State, names: &Names) -> bool
     ensures { result ≡ list_all (spec.is_right_orphan m.now names.now) m.now.orphans }
 {
-    for (reference, orphan) in m.orphans.as_slice() {
+    for (reference, orphan) in m.orphans.iter() {
         if !is_right_orphan(m, names, reference, orphan) {
             return false;
         }
@@ -69,7 +68,9 @@ fn are_tables_sorted(m: &State) -> bool
 {
     m.rows.in_order();
     m.holders.in_order();
-    rise(m.records.as_slice()) && rise(m.orphans.as_slice())
+    m.records.in_order();
+    m.orphans.in_order();
+    true
 }
 
 fn is_bare(m: &State) -> bool

@@ -7,22 +7,21 @@ ghost use Rattle.cat_frame.specs.Linked.{AreLinked};
 use cat_hold::layers::Layers;
 use cat_hold::parts::emitted_by;
 use cat_links::links::{EmitChange, Links};
-use cat_model::types::{Record, State};
-use cat_ref::reference::Ref;
+use cat_model::records::Records;
+use cat_model::types::State;
 use cat_table::listing::Copied;
-use cat_types::table::Table;
 use std::alloc::{AllocError, Global};
 
 // What the kept outputs emit.
 fn emissions<L: Layers>(
     alloc: Global,
     layers: &L,
-    records: &Table<Ref, Record>,
+    records: &Records,
 ) -> Result<Vec<EmitChange>, AllocError>
     ensures { IfOk result (λ l. l.items ≡ map (λ e. record { emitter = e; relations = emits L.rules e (output_of records.now e) }) (keys records.now)) }
 {
     let mut changes = Vec::new(alloc);
-    for (emitter, _) in records.as_slice() {
+    for (emitter, _) in records.iter() {
         changes.push(EmitChange {
             emitter: emitter.duplicate(alloc)?,
             relations: emitted_by(alloc, layers, records, emitter)?,

@@ -3,26 +3,22 @@ ghost use Rattle.std.specs.Prelude.{◌≡◌, ◌&&◌, IfOk, Option, nat_le, n
 ghost use Rattle.cat_sound.specs.Candidate as spec;
 ghost use Rattle.cat_sound.specs.Indexed.{with_names};
 
-use cat_model::types::{Orphan, Record, State};
+use cat_model::records::Records;
+use cat_model::types::{Orphan, State};
 use cat_ref::reference::Ref;
 use cat_table::key::Key;
 use cat_table::listing::Copied;
 use cat_table::map::Map;
-use cat_types::table::Table;
 use std::alloc::{AllocError, Global};
 use std::cmp::Ordering;
 
 /// References by number.
 pub type Names = Map<u64, Ref>;
 
-fn put_records(
-    alloc: Global,
-    records: &Table<Ref, Record>,
-    names: &mut Names,
-) -> Result<(), AllocError>
+fn put_records(alloc: Global, records: &Records, names: &mut Names) -> Result<(), AllocError>
     ensures { IfOk result (λ _. names.new ≡ with_names (λ x. x.number) records.now names.old) }
 {
-    for (reference, record) in records.as_slice() {
+    for (reference, record) in records.iter() {
         names.put(alloc, record.number, reference.duplicate(alloc)?)?;
     }
     Ok(())
@@ -30,12 +26,12 @@ fn put_records(
 
 fn put_orphans(
     alloc: Global,
-    orphans: &Table<Ref, Orphan>,
+    orphans: &Map<Ref, Orphan>,
     names: &mut Names,
 ) -> Result<(), AllocError>
     ensures { IfOk result (λ _. names.new ≡ with_names (λ x. x.number) orphans.now names.old) }
 {
-    for (reference, orphan) in orphans.as_slice() {
+    for (reference, orphan) in orphans.iter() {
         names.put(alloc, orphan.number, reference.duplicate(alloc)?)?;
     }
     Ok(())

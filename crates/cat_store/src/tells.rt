@@ -7,10 +7,11 @@ ghost use Rattle.cat_store.specs.Narrow.{is_narrow};
 ghost use Rattle.cat_store.specs.Tells as spec;
 
 use crate::narrow::is_narrow;
+use cat_model::records::Records;
 use cat_model::rows::IndexedRows;
-use cat_model::types::{Orphan, ProviderInputs, Record, Row, State};
+use cat_model::types::{Orphan, ProviderInputs, Row, State};
 use cat_ref::reference::Ref;
-use cat_table::map::rise;
+use cat_table::map::{Map, rise};
 use cat_tree::text::Text;
 use cat_types::input::Offered;
 use cat_types::work::Output;
@@ -80,10 +81,10 @@ fn is_narrow_record(number: u64, output: &Option<Output>) -> bool
     is_narrow_output(output)
 }
 
-fn are_narrow_records(records: &[(Ref, Record)]) -> bool
+fn are_narrow_records(records: &Records) -> bool
     ensures { result ≡ list_all spec.is_narrow_record records.now }
 {
-    for (_, kept) in records {
+    for (_, kept) in records.iter() {
         if !is_narrow_record(kept.number, &kept.output) {
             return false;
         }
@@ -98,10 +99,10 @@ fn is_narrow_orphan(number: u64, orphan: &Orphan) -> bool
     is_narrow(orphan.entity.tree())
 }
 
-fn are_narrow_orphans(orphans: &[(Ref, Orphan)]) -> bool
+fn are_narrow_orphans(orphans: &Map<Ref, Orphan>) -> bool
     ensures { result ≡ list_all spec.is_narrow_orphan orphans.now }
 {
-    for (_, orphan) in orphans {
+    for (_, orphan) in orphans.iter() {
         if !is_narrow_orphan(orphan.number, orphan) {
             return false;
         }
@@ -119,6 +120,6 @@ pub(crate) fn is_telling(m: &State) -> bool
         && rise(m.shelf.as_slice())
         && are_right_providers(m.providers.as_slice())
         && are_narrow_rows(&m.rows)
-        && are_narrow_records(m.records.as_slice())
-        && are_narrow_orphans(m.orphans.as_slice())
+        && are_narrow_records(&m.records)
+        && are_narrow_orphans(&m.orphans)
 }

@@ -91,7 +91,7 @@ IsLineOf table key written written' faults faults' =
     ⊎ (AppendsFront written written' (refused_store table key) × Rose faults faults')
 
 -- A store was refused of which a keeper told these rows, if it told any: the line that names a row was written whole, or the sink failed in it, and the row is
--- the first at fault among the rows, or none is.
+-- the first at fault among the rows; where none is, the first by which they differ from the rows of the state that they stand for.
 abbrev pub IsRefused : Option Rows → Option (List ℕ) → Option (List ℕ) → ℕ → ℕ → Type 0
 IsRefused told written written' faults faults' =
     (table : Table) × (key : Text) × IfSome told (λ rows. IsNamed (program_settings Keep).input_limit rows (Row table key))

@@ -1,5 +1,4 @@
 pub mod Heights
-pub mod Nodes
 pub mod Orders
 pub mod Placed
 pub mod Places

@@ -1,7 +1,3 @@
-pub mod Boxed
-pub mod BoxedFalls
-pub mod BoxedLeft
-pub mod BoxedParts
 pub mod Left
 pub mod Order
 pub mod Pairs

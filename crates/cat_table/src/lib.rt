@@ -1,19 +1,15 @@
 //! Lists, and maps in order of their keys: what contracts see as items, and as entries by key, each key once.
 //!
 //! A `Listing` is a list in whatever order it was made. A `Map` is a sorted tree whose copies share its nodes: a copy takes
-//! no memory, and a change copies no more than the way down to it, so it suits what is planned, kept and taken back. An
-//! `Owned` is a sorted tree that owns its nodes: entries come and go with their nodes, so a change takes no memory that
-//! wasn't taken before, as by a `Spare`. It stands on cat_tree and cat_ref, whose texts and references are keys.
+//! no memory, and a change copies no more than the way down to it, so it suits what is planned, kept and taken back. It
+//! stands on cat_tree and cat_ref, whose texts and references are keys.
 //!
 //! The promise: look-ups and changes are `find`, `put` and `without` over the entries, which stay in order of their keys;
 //! where memory is wanted nothing has changed; a copy equals what it was made of; and trees stay balanced.
 #![tactic(auto)]
 
-pub mod boxed;
 pub mod key;
 pub mod listing;
 pub mod map;
-pub mod owned;
 pub mod pair;
-pub mod spare;
 pub mod tree;

@@ -6,8 +6,9 @@ ghost use Rattle.cat_tables.specs.Stored as spec;
 use crate::copies::{Emitted, item_row, orphan_row, provider_row, record_row, rule_of, shelf_row};
 use crate::version::Version;
 use cat_keeper::table::Table;
+use cat_model::records::Records;
 use cat_model::rows::IndexedRows;
-use cat_model::types::{Origin, Orphan, OrphanRule, ProviderInputs, Record, Row, State};
+use cat_model::types::{Origin, Orphan, OrphanRule, ProviderInputs, Row, State};
 use cat_ref::reference::Ref;
 use cat_rows::row::{StoredCounter, StoredRow};
 use cat_rows::write::{row_key, row_table};
@@ -158,11 +159,11 @@ fn put_records(
     version: Version,
     holders: &Map<Ref, u64>,
     arrivals: &Emitted,
-    records: &[(Ref, Record)],
+    records: &Records,
 ) -> Result<(), AllocError>
     ensures { OnOk result (made.new ≡ spec.put_rows (map (spec.record_in version holders.now arrivals.now) records.now) made.old) }
 {
-    for (reference, record) in records {
+    for (reference, record) in records.iter() {
         let row = record_row(alloc, version, holders, arrivals, reference, record)?;
         put_row(alloc, made, row)?;
     }
@@ -173,11 +174,11 @@ fn put_records(
 fn put_orphans(
     alloc: Global,
     made: &mut Stored,
-    orphans: &[(Ref, Orphan)],
+    orphans: &Map<Ref, Orphan>,
 ) -> Result<(), AllocError>
     ensures { OnOk result (made.new ≡ spec.put_rows (map spec.orphan_row orphans.now) made.old) }
 {
-    for (reference, orphan) in orphans {
+    for (reference, orphan) in orphans.iter() {
         put_row(alloc, made, orphan_row(alloc, reference, orphan)?)?;
     }
     Ok(())
@@ -222,15 +223,8 @@ pub(crate) fn put_kept(
     put_all_given(alloc, made, version, &m.rows)?;
     put_shelf(alloc, made, m.shelf.as_slice())?;
     let arrivals = emitted(alloc, &m.rows)?;
-    put_records(
-        alloc,
-        made,
-        version,
-        &m.holders,
-        &arrivals,
-        m.records.as_slice(),
-    )?;
-    put_orphans(alloc, made, m.orphans.as_slice())
+    put_records(alloc, made, version, &m.holders, &arrivals, &m.records)?;
+    put_orphans(alloc, made, &m.orphans)
 }
 
 // Puts all rows of a state.

@@ -1,4 +1,5 @@
 //! Replies as they are printed.
+use cat_model::records::Records;
 use cat_model::types::{Acted, Counter, Fault, Finished, Placed, Record};
 use cat_query::fault::QueryFault;
 use cat_ref::reference::{Ref, parse};
@@ -11,7 +12,6 @@ use cat_replies::lists::push_failures;
 use cat_table::listing::Listing;
 use cat_tree::text::Text;
 use cat_types::issue::{Issue, IssueName, Level};
-use cat_types::table::Table;
 use std::alloc::Global;
 use std::test::Fail;
 
@@ -116,26 +116,21 @@ fn record(alloc: Global, level: Level, message: &str) -> Result<Record, Fail> {
     })
 }
 
-fn shown(alloc: Global, records: &Table<Ref, Record>) -> Result<Vec<u8>, Fail> {
+fn shown(alloc: Global, records: &Records) -> Result<Vec<u8>, Fail> {
     let mut out = Vec::new(alloc);
     push_failures(alloc, &mut out, records)?;
     Ok(out)
 }
 
-fn put(
-    alloc: Global,
-    records: &mut Table<Ref, Record>,
-    text: &str,
-    record: Record,
-) -> Result<(), Fail> {
-    records.put(reference(alloc, text)?, record)?;
+fn put(alloc: Global, records: &mut Records, text: &str, record: Record) -> Result<(), Fail> {
+    records.put(alloc, reference(alloc, text)?, record)?;
     Ok(())
 }
 
 #[test]
 fn lists_failures(rt: HostRuntime) -> Result<(), Fail> {
     let alloc = rt.alloc();
-    let mut records = Table::new(alloc);
+    let mut records = Records::new();
     put(
         alloc,
         &mut records,

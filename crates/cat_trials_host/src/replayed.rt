@@ -200,7 +200,7 @@ impl Player {
             }
             Input::ShelfPut(name, text) => catalogue.shelf_put(alloc, name, text),
             Input::ShelfDrop(name) => catalogue.shelf_drop(alloc, name),
-            Input::Refresh(reference) => catalogue.refresh(alloc, reference),
+            Input::Refresh(reference) => catalogue.refresh(reference),
             Input::Forget(reference) => catalogue.forget(alloc, reference),
             Input::ForgetNumber(number) => catalogue.forget_number(alloc, *number),
         }

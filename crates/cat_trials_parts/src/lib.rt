@@ -1,5 +1,5 @@
 //! Tests of what is no text, of crates that don't stand on the catalogue: trees that no text has, references, lists and maps, the
-//! plain types, equality of works and parts, marks, records, and replies of HTTP. What comes of texts is told by `cat_cases`, and what
+//! plain types, equality of works and parts, marks, and replies of HTTP. What comes of texts is told by `cat_cases`, and what
 //! reads and writes is tried by `cat_trials_io`.
 //!
 //! Each module has the tests of one crate, by its public calls; `made` makes what several of them need. It stands on those crates
@@ -12,8 +12,6 @@ mod http;
 mod made;
 #[cfg(test)]
 mod marks;
-#[cfg(test)]
-mod records;
 #[cfg(test)]
 mod refs;
 #[cfg(test)]

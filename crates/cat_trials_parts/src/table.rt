@@ -1,9 +1,8 @@
 //! What no clause says: that copies are kept while a map changes, and that trees stay low; and some calls at work.
+use cat_owned::owned::Owned;
 use cat_table::listing::{Copied, Listing};
 use cat_table::map::Map;
-use cat_table::owned::Owned;
 use cat_table::pair::Pair;
-use cat_table::spare::Spare;
 use cat_tree::text::Text;
 use std::alloc::{AllocError, Global};
 use std::test::Fail;
@@ -90,26 +89,13 @@ fn seeks_by_halves(rt: HostRuntime) -> Result<(), Fail> {
     Ok(())
 }
 
-// Fills a slot with each of fifty entries, whose keys fall. None has the key of one before.
-fn fill(spare: &mut Spare<(u64, u64)>) -> Result<Owned<u64, u64>, Fail> {
+// Fifty entries, whose keys fall while they are put.
+fn filled(alloc: Global) -> Result<Owned<u64, u64>, Fail> {
     let mut map = Owned::new();
     for number in 0..50u64 {
-        let slot = spare.pop().ok_or("no slot")?;
-        if map.len() < 100 {
-            let before = map.put_node(slot.fill((49 - number, number)));
-            if before.is_some() {
-                return Err(Fail::new("a key twice"));
-            }
-        }
+        map.put(alloc, 49 - number, number)?;
     }
     Ok(map)
-}
-
-// Fifty entries, in slots that were taken before.
-fn filled(alloc: Global) -> Result<Owned<u64, u64>, Fail> {
-    let mut spare = Spare::new(alloc);
-    spare.reserve(alloc, 50)?;
-    fill(&mut spare)
 }
 
 #[test]

@@ -4,4 +4,4 @@ use Rattle.cat_core.proofs.Firsts.{known_is}
 use Rattle.cat_core.proofs.known.next_of.Goals as goal
 
 pub returns : goal.returns
-returns c = known_is (comes_after (option_map (λ r. r.now) c.args.after)) c.args.m.now c.as_slice-2.result.now c.as_slice.result.now _ _ c.as_slice-2.ensures c.as_slice.ensures c.least_in-orphan.ensures c.least_in.ensures
+returns c = known_is (comes_after (option_map (λ r. r.now) c.args.after)) c.args.m.now c.in_order.ensures c.in_order-2.ensures _ _ _ c.record_after.ensures c.orphan_after.ensures c.lesser.ensures

@@ -9,11 +9,11 @@ returns-in-Some c =
     let n = c.args.number in
     let orphan = key_where (λ x. nat_eq n x.number) c.args.m.now.orphans in
     sym (ap (λ r. option_or (option_map (λ r. r.now) r) orphan) c.in-Some.is)
-    ∙ numbered_is c.args.m.now c.requires n (option_map (λ r. r.now) c.record_numbered.result) orphan (c.record_numbered.ensures ∙ ap (key_where (λ x. nat_eq n x.number)) c.as_slice.ensures) refl
+    ∙ numbered_is c.args.m.now c.requires n (option_map (λ r. r.now) c.record_numbered.result) orphan c.record_numbered.ensures refl
 
 pub returns-in-None : goal.returns-in-None
 returns-in-None c =
     let n = c.args.number in
     let orphan = option_map (λ r. r.now) c.orphan_numbered.result in
     sym (ap (λ r. option_or (option_map (λ r. r.now) r) orphan) c.in-None.is)
-    ∙ numbered_is c.args.m.now c.requires n (option_map (λ r. r.now) c.record_numbered.result) orphan (c.record_numbered.ensures ∙ ap (key_where (λ x. nat_eq n x.number)) c.as_slice.ensures) (c.orphan_numbered.ensures ∙ ap (key_where (λ x. nat_eq n x.number)) c.as_slice-in-None.ensures)
+    ∙ numbered_is c.args.m.now c.requires n (option_map (λ r. r.now) c.record_numbered.result) orphan c.record_numbered.ensures c.orphan_numbered.ensures

@@ -8,10 +8,10 @@ use Rattle.cat_core.proofs.questions.is_quiet.Goals as goal
 pub returns-then-none_due : goal.returns-then-none_due
 returns-then-none_due c =
     let marks = c.args.m.now.marks in
-    let due = c.none_due.ensures ∙ ap is_empty (keys_in_order text_total text_antisymmetric (is_due c.args.now) c.args.m.now.records c.requires c.as_slice.result.now c.as_slice.ensures) in
+    let due = c.none_due.ensures ∙ ap is_empty (keys_in_order text_total text_antisymmetric (is_due c.args.now) c.args.m.now.records c.requires) in
     ap (λ n. nat_eq n 0) c.len.ensures ∙ (is_empty-length marks ∙ ap (λ b. b && is_empty marks) (sym c.if-none_due.true ∙ due))
 
 pub returns-else-none_due : goal.returns-else-none_due
 returns-else-none_due c =
-    let due = c.none_due.ensures ∙ ap is_empty (keys_in_order text_total text_antisymmetric (is_due c.args.now) c.args.m.now.records c.requires c.as_slice.result.now c.as_slice.ensures) in
+    let due = c.none_due.ensures ∙ ap is_empty (keys_in_order text_total text_antisymmetric (is_due c.args.now) c.args.m.now.records c.requires) in
     c.if-none_due.false ∙ ap (λ b. b && is_empty c.args.m.now.marks) (sym c.if-none_due.false ∙ due)

@@ -5,4 +5,4 @@ use Rattle.cat_settle.proofs.Held.{keys_in_order}
 use Rattle.cat_settle.proofs.order.refs_due.Goals as goal
 
 pub returns : goal.returns
-returns c = c.in_ok-refs.ensures ∙ keys_in_order text_total text_antisymmetric (is_due c.args.now) c.args.m.now.records c.requires c.as_slice.result.now c.as_slice.ensures
+returns c = c.in_ok-refs.ensures ∙ keys_in_order text_total text_antisymmetric (is_due c.args.now) c.args.m.now.records c.requires

@@ -1,7 +1,12 @@
-use Rattle.std.proofs.Common.{◌≡◌, drop}
+use Rattle.std.proofs.Common.{◌≡◌}
 use Rattle.std.specs.List.{list_all}
+use Rattle.cat_owned.specs.BoxedLeft.{boxed_left}
 use Rattle.cat_sound.specs.Candidate.{is_right_record}
 use Rattle.cat_sound.proofs.candidate.are_right_records.Given as goal
 
+-- all are right where those that are left are
 abbrev pub invariant-loop-reference : goal.invariant-loop-reference
-invariant-loop-reference l = list_all (is_right_record l.m l.index l.names) (drop l.reference-index l.reference-items) ≡ list_all (is_right_record l.m l.index l.names) l.reference-items
+invariant-loop-reference l =
+    goal.iterator-loop-reference.can_next l.reference-iterator
+    × goal.iterator-loop-reference.is_finite l.reference-iterator
+    × (list_all (is_right_record l.m l.index l.names) (boxed_left l.reference-iterator) ≡ list_all (is_right_record l.m l.index l.names) l.m.records)

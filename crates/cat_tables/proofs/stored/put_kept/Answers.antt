@@ -22,9 +22,9 @@ returns c =
     let e3 : m3 ≡ put_rows (map shelf_row m.shelf) m2 =
     c.in_ok-put_shelf.ensures ∙ ap (λ l. put_rows (map shelf_row l) m2) c.as_slice-2.ensures in
     let e4 : m4 ≡ put_rows (map (record_in c.args.version m.holders (emitted m.rows)) m.records) m3 =
-    c.in_ok-put_records.ensures ∙ (λ i. put_rows (map (record_in c.args.version m.holders (arrivals i)) (c.as_slice-3.ensures i)) m3) in
+    c.in_ok-put_records.ensures ∙ ap (λ a. put_rows (map (record_in c.args.version m.holders a) m.records) m3) arrivals in
     on_ok_weaker c.put_orphans.result
     (λ e. put_five (map provider_row m.providers) (flat_map given m.rows) (map shelf_row m.shelf)
     (map (record_in c.args.version m.holders (emitted m.rows)) m.records) (map orphan_row m.orphans) c.args.made.now m1 m2 m3 m4 m5
-    e1 e2 e3 e4 (e ∙ ap (λ l. put_rows (map orphan_row l) m4) c.as_slice-4.ensures))
+    e1 e2 e3 e4 e)
     c.put_orphans.ensures

@@ -1,0 +1,13 @@
+use Rattle.std.proofs.Common.{◌≡◌}
+use Rattle.std.specs.Option.{option_map}
+use Rattle.cat_owned.specs.BoxedLeft.{boxed_left}
+use Rattle.cat_table.specs.Table.{first, keys}
+use Rattle.cat_model.specs.Reply.{comes_after}
+use Rattle.cat_core.proofs.known.record_after.Given as goal
+
+-- the first of those that are left to come after is the first of all
+abbrev pub invariant-loop-reference : goal.invariant-loop-reference
+invariant-loop-reference l =
+    goal.iterator-loop-reference.can_next l.reference-iterator
+    × goal.iterator-loop-reference.is_finite l.reference-iterator
+    × (first (comes_after (option_map (λ r. r.now) l.after)) (keys (boxed_left l.reference-iterator)) ≡ first (comes_after (option_map (λ r. r.now) l.after)) (keys l.records))

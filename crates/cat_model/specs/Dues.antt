@@ -1,0 +1,62 @@
+-- Records by reference, and by the moment from which they are due.
+use Rattle.std.specs.Prelude.{◌≡◌, ℕ, Bool, true, false, cond, ◌&&◌, nat_le, nat_lt, is_some, unwrap_or, List, [], ◌∷◌, length}
+use Rattle.std.specs.Ordering.{eq_by_cmp, nat_cmp}
+use Rattle.std.specs.declared.cmp.Ordering.{Ordering}
+use Rattle.std.specs.declared.option.Option.{Option}
+use Rattle.std.specs.declared.option.Option.TheVariants.{None, Some}
+use Rattle.cat_table.specs.Pairs.{pair_cmp}
+use Rattle.cat_table.specs.Table.{Map, Text, find, get, put, text_cmp}
+use Rattle.cat_model.specs.declared.types.Lease.{Lease}
+use Rattle.cat_model.specs.declared.types.Record.{Record}
+
+-- whether there is no lease, or one that has lapsed
+abbrev pub is_free : ℕ → Option Lease → Bool
+is_free now None = true
+is_free now (Some lease) = nat_le lease.expires now
+
+-- whether a record is due and has no live lease
+abbrev pub may_take : ℕ → Option Record → Bool
+may_take now None = false
+may_take now (Some x) = nat_le x.due now && is_free now x.lease
+
+-- the record of a reference, if there is one, gets this lease, and a due moment if one is given
+abbrev pub rerecorded_at : Text → Option ℕ → Option Lease → Option Record → Map Record → Map Record
+rerecorded_at r due lease None records = records
+rerecorded_at r due lease (Some x) records = put text_cmp r (record x { due = unwrap_or due x.due; lease = lease }) records
+
+-- ---- the entry of the record that a take leases
+
+-- the first of two entries in order of due moment, and then of place
+abbrev pub sooner : Text × Record → Option (Text × Record) → Option (Text × Record)
+sooner e None = Some e
+sooner e (Some b) = cond (nat_le e.1.due b.1.due) (Some e) (Some b)
+
+-- of the entries whose records may be taken, the first in order of due moment, and then of place
+abbrev pub soonest : ℕ → Map Record → Option (Text × Record)
+soonest now [] = None
+soonest now (e ∷ es) = cond (may_take now (Some e.1)) (sooner e (soonest now es)) (soonest now es)
+
+-- ---- moments in order
+
+-- moments from which records are due, with their references
+abbrev pub Dues : Type 0
+Dues = List ((ℕ × Text) × Unit {0})
+
+-- they are ordered by moment, and by reference where moments tie
+abbrev pub due_cmp : ℕ × Text → ℕ × Text → Ordering
+due_cmp = pair_cmp nat_cmp text_cmp
+
+-- whether a record is due from this moment on
+abbrev pub is_due_from : ℕ → Option Record → Bool
+is_due_from t None = false
+is_due_from t (Some x) = eq_by_cmp nat_cmp t x.due
+
+-- a moment stands with a reference exactly where the reference's record is due from it on
+pub record AreDues (records : Map Record) (dues : Dues) : Type 0 where
+  pub same : (t : ℕ) (r : Text) → is_some (find due_cmp (t, r) dues) ≡ is_due_from t (get records r)
+  pub count : length dues ≡ length records
+
+-- in order of the moments, up to the present one, the first reference whose record may be taken
+abbrev pub first_taken : ℕ → Map Record → Dues → Option Text
+first_taken now records [] = None
+first_taken now records (d ∷ ds) = cond (nat_lt now d.0.0) None (cond (may_take now (get records d.0.1)) (Some d.0.1) (first_taken now records ds))

@@ -1,0 +1,352 @@
+//! Records by reference, and by the moment from which they are due.
+ghost use Rattle.std.specs.Prelude.{◌≡◌, ◌+◌, ◌<◌, ◌≤◌, ◌==◌, ◌∷◌, [], IfOk, IsTrue, Option, is_ok, is_some, if◌then◌else◌, length, option_map, slice_get};
+ghost use Rattle.std.specs.FinMap.Entries.{is_sorted};
+ghost use Rattle.cat_owned.specs.BoxedLeft.{boxed_left};
+ghost use Rattle.cat_table.specs.Rows.{without};
+ghost use Rattle.cat_table.specs.Table.{find, get, keys, put, text_cmp};
+ghost use Rattle.cat_types.specs.Amended.{amended};
+ghost use Rattle.cat_model.specs.Dues.{due_cmp, first_taken, is_free, may_take, rerecorded_at, soonest};
+ghost use Rattle.std.specs.declared.option.Option.TheVariants.{Some};
+
+use crate::types::{Lease, Record};
+use cat_owned::boxed::{BoxedItems, Node, Slot};
+use cat_owned::owned::Owned;
+use cat_ref::reference::Ref;
+use cat_table::listing::{Copied, Listing};
+use cat_table::pair::Pair;
+use cat_table::tree::MOST;
+use std::alloc::{AllocError, Global};
+use std::marker::Model;
+
+// Moments from which records are due, each with the reference of its record.
+type Dues = Owned<(u64, Ref), ()>;
+
+/// Records by reference. Contracts see them in order of reference. They are kept by the moments from which they are due, too,
+/// so that the one which a take leases is found without a look at those that are due later.
+#[derive(Drop)]
+pub struct Records {
+    entries: Owned<Ref, Record>,
+    dues: Dues,
+}
+
+impl Model for Records {
+    ghost use Rattle.cat_model.specs.Dues.{AreDues};
+    ghost use Rattle.cat_table.specs.Table.{Map};
+    ghost use Rattle.cat_model.specs.declared.types.Record.{Record as TheRecord};
+    ghost use Rattle.cat_model.specs.contracts.types.Record.{the_row};
+    ghost use Rattle.std.specs.Coded.{coded_list, coded×, coded_ℕ};
+
+    ghost Value = { Map TheRecord };
+
+    ghost coded = { coded_list (coded× (coded_list coded_ℕ) the_row.coded) };
+
+    ghost view = { λ a. a.entries };
+
+    ghost invariant = { λ a. AreDues a.entries a.dues };
+}
+
+/// A record under its reference, with all memory that putting it takes. Contracts see both.
+#[derive(Drop)]
+pub struct ReadyRecord {
+    entry: Node<(Ref, Record)>,
+    due: Node<((u64, Ref), ())>,
+}
+
+impl Model for ReadyRecord {
+    ghost use Rattle.std.specs.Prelude.{◌≡◌};
+    ghost use Rattle.cat_table.specs.Table.{Text};
+    ghost use Rattle.cat_model.specs.declared.types.Record.{Record as TheRecord};
+    ghost use Rattle.cat_model.specs.contracts.types.Record.{the_row};
+    ghost use Rattle.std.specs.Coded.{coded_list, coded×, coded_ℕ};
+
+    ghost Value = { Text × TheRecord };
+
+    ghost coded = { coded× (coded_list coded_ℕ) the_row.coded };
+
+    ghost view = { λ a. a.entry };
+
+    ghost invariant = { λ a. a.due ≡ ((a.entry.1.due, a.entry.0), tt {0}) };
+}
+
+impl ReadyRecord {
+    /// Takes the memory for a record under its reference.
+    pub fn new(alloc: Global, reference: Ref, kept: Record) -> Result<ReadyRecord, AllocError>
+        ensures { IfOk result (λ r. r ≡ (reference, kept)) }
+    {
+        let entry = Slot::new(alloc)?;
+        let due = Slot::new(alloc)?;
+        let key = (kept.due, reference.duplicate(alloc)?);
+        Ok(ReadyRecord {
+            entry: entry.fill((reference, kept)),
+            due: due.fill((key, ())),
+        })
+    }
+}
+
+/// Takes the memory for records under their references.
+pub fn ready(alloc: Global, records: Vec<(Ref, Record)>) -> Result<Vec<ReadyRecord>, AllocError>
+    ensures { IfOk result (λ r. r.items ≡ records.items) }
+{
+    let mut ready = Vec::new(alloc);
+    for (reference, record) in records {
+        ready.push(ReadyRecord::new(alloc, reference, record)?)?;
+    }
+    Ok(ready)
+}
+
+// Strikes out the moment of a record.
+fn strike_due(dues: &mut Dues, reference: &Ref, due: u64)
+    requires { IsTrue (is_some (find due_cmp (due, reference.now) dues.old)) }
+    ensures dues { dues.new ≡ without due_cmp (due, reference.now) dues.old }
+    ensures room { length dues.new < MOST }
+{
+    let moment = Pair {
+        first: &due,
+        second: reference,
+    };
+    match dues.seek_take(&moment) {
+        None => unreachable!(),
+        Some(_node) => {}
+    }
+}
+
+// The moment of a record goes from one to another.
+fn move_due(dues: &mut Dues, reference: &Ref, before: u64, after: u64)
+    requires { IsTrue (is_some (find due_cmp (before, reference.now) dues.old)) }
+    ensures { dues.new ≡ put due_cmp (after, reference.now) (tt {0}) (without due_cmp (before, reference.now) dues.old) }
+{
+    let moment = Pair {
+        first: &before,
+        second: reference,
+    };
+    match dues.seek_take(&moment) {
+        None => unreachable!(),
+        Some(node) => {
+            let (((_, reference), nothing), slot) = node.open();
+            dues.put_node(slot.fill(((after, reference), nothing)));
+        }
+    }
+}
+
+fn is_free(now: u64, lease: &Option<Lease>) -> bool
+    ensures { result ≡ is_free now lease.now }
+{
+    match lease {
+        None => true,
+        Some(lease) => lease.expires <= now,
+    }
+}
+
+// Whether a record is due and has no live lease.
+fn may_take(now: u64, kept: Option<&Record>) -> bool
+    ensures { result ≡ may_take now (option_map (λ x. x.now) kept.entry) }
+{
+    match kept {
+        None => false,
+        Some(kept) => kept.due <= now && is_free(now, &kept.lease),
+    }
+}
+
+// In order of the moments, up to the present one, the first reference whose record may be taken.
+fn first_taken<'a>(now: u64, records: &Owned<Ref, Record>, dues: &'a Dues) -> Option<&'a Ref>
+    ensures { option_map (λ r. r.now) result ≡ first_taken now records.now dues.now }
+{
+    for ((due, reference), _) in dues.iter() {
+        if now < *due {
+            return None;
+        }
+        if may_take(now, records.get(reference)) {
+            return Some(reference);
+        }
+    }
+    None
+}
+
+impl Records {
+    /// No records. Takes no memory.
+    pub fn new() -> Records
+        ensures { result ≡ [] }
+    {
+        Records {
+            entries: Owned::new(),
+            dues: Owned::new(),
+        }
+    }
+
+    /// How many records there are.
+    pub fn len(&self) -> usize
+        ensures records { result ≡ length self.now }
+        ensures most { result ≤ MOST }
+    {
+        self.entries.len()
+    }
+
+    /// Whether there are no records.
+    pub fn is_empty(&self) -> bool
+        ensures { result ≡ (length self.now == 0) }
+    {
+        self.entries.is_empty()
+    }
+
+    /// References rise. Does nothing; its callers learn it.
+    pub fn in_order(&self)
+        ensures { IsTrue (is_sorted text_cmp self.now) }
+    {
+        self.entries.in_order();
+    }
+
+    /// Lends the record of a reference; none where it has none.
+    pub fn get(&self, reference: &Ref) -> Option<&Record>
+        ensures { option_map (λ x. x.now) result ≡ get self.now reference.now }
+    {
+        self.entries.get(reference)
+    }
+
+    /// Lends the record at a place in the order of the references, with its reference.
+    pub fn at(&self, place: usize) -> Option<&(Ref, Record)>
+        ensures { option_map (λ e. e.now) result ≡ slice_get self.now place }
+    {
+        self.entries.at(place)
+    }
+
+    /// Lends the records in order of their references.
+    pub fn iter(&self) -> BoxedItems<'_, (Ref, Record)>
+        ensures { boxed_left result ≡ self.now }
+    {
+        self.entries.iter()
+    }
+
+    /// Copies of the references in order.
+    pub fn keys(&self, alloc: Global) -> Result<Listing<Ref>, AllocError>
+        ensures { IfOk result (λ ks. ks ≡ keys self.now) }
+    {
+        let mut references = Vec::new(alloc);
+        for (reference, _) in self.iter() {
+            references.push(reference.duplicate(alloc)?)?;
+        }
+        Ok(Listing::from_vec(references))
+    }
+
+    #[tactic(auto, using(crate::proofs::Soonest::first_is))]
+    /// The reference of the record that a take leases at this moment: of those that are due and have no live lease the first
+    /// in order of due moment, and of reference where moments tie. It looks at the records that are due before it alone.
+    pub fn first_due(&self, now: u64) -> Option<&Ref>
+        ensures { option_map (λ r. r.now) result ≡ option_map (λ e. e.0) (soonest now self.now) }
+    {
+        self.entries.in_order();
+        self.dues.in_order();
+        first_taken(now, &self.entries, &self.dues)
+    }
+}
+
+impl Records {
+    /// Puts a record under its reference, in place of a former one. Takes no memory.
+    pub fn put_ready(&mut self, ready: ReadyRecord)
+        requires room { length self.old < MOST }
+        ensures { self.new ≡ put text_cmp ready.0 ready.1 self.old }
+    {
+        self.entries.in_order();
+        self.dues.in_order();
+        let ReadyRecord { entry, due } = ready;
+        match self.entries.put_node(entry) {
+            None => {
+                self.dues.put_node(due);
+            }
+            Some(former) => {
+                let (reference, record) = former.item();
+                strike_due(&mut self.dues, reference, record.due);
+                self.dues.put_node(due);
+            }
+        }
+    }
+
+    /// Puts a record under its reference, in place of a former one. Where memory is wanted, all is as before.
+    pub fn put(&mut self, alloc: Global, reference: Ref, kept: Record) -> Result<(), AllocError>
+        ensures { self.new ≡ (if is_ok result then put text_cmp reference kept self.old else self.old) }
+    {
+        if self.entries.len() == MOST {
+            return Err(AllocError);
+        }
+        let ready = ReadyRecord::new(alloc, reference, kept)?;
+        self.put_ready(ready);
+        Ok(())
+    }
+
+    /// Takes a reference's record away, if it has one. Takes no memory.
+    pub fn remove(&mut self, reference: &Ref)
+        ensures { self.new ≡ without text_cmp reference.now self.old }
+    {
+        self.entries.in_order();
+        self.dues.in_order();
+        if let Some(former) = self.entries.take(reference) {
+            strike_due(&mut self.dues, reference, former.item().1.due);
+        }
+    }
+
+    /// Gives the record of a reference, if there is one, this lease, and this due moment if one is given. Takes no memory.
+    pub fn renew(&mut self, reference: &Ref, due: Option<u64>, lease: Option<Lease>)
+        ensures { self.new ≡ rerecorded_at reference.now due lease (get self.old reference.now) self.old }
+    {
+        self.entries.in_order();
+        self.dues.in_order();
+        if let Some(node) = self.entries.take(reference) {
+            let ((reference, record), slot) = node.open();
+            let mut record = record;
+            let before = record.due;
+            record.due = due.unwrap_or(before);
+            record.lease = lease;
+            move_due(&mut self.dues, &reference, before, record.due);
+            self.entries.put_node(slot.fill((reference, record)));
+        }
+    }
+
+    /// Takes the records of some references away, and then puts others. Takes no memory.
+    pub fn amend(&mut self, ready: Vec<ReadyRecord>, gone: &[Ref])
+        requires room { length self.old + length ready.items ≤ MOST }
+        ensures { self.new ≡ amended text_cmp ready.items gone.now self.old }
+    {
+        for reference in gone {
+            self.in_order();
+            self.remove(reference);
+        }
+        for record in ready {
+            self.in_order();
+            self.put_ready(record);
+        }
+    }
+}
+
+// Copies of records with their references.
+fn copied(alloc: Global, records: &Owned<Ref, Record>) -> Result<Vec<(Ref, Record)>, AllocError>
+    ensures { IfOk result (λ made. made.items ≡ records.now) }
+{
+    let mut made = Vec::with_capacity(alloc, records.len())?;
+    for entry in records.iter() {
+        made.push(entry.duplicate(alloc)?)?;
+    }
+    Ok(made)
+}
+
+// Copies of moments with their references.
+fn copied_dues(alloc: Global, dues: &Dues) -> Result<Vec<((u64, Ref), ())>, AllocError>
+    ensures { IfOk result (λ made. made.items ≡ dues.now) }
+{
+    let mut made = Vec::with_capacity(alloc, dues.len())?;
+    for (moment, _) in dues.iter() {
+        made.push((moment.duplicate(alloc)?, ()))?;
+    }
+    Ok(made)
+}
+
+impl Copied for Records {
+    fn duplicate(&self, alloc: Global) -> Result<Records, AllocError> {
+        self.entries.in_order();
+        self.dues.in_order();
+        let entries = copied(alloc, &self.entries)?;
+        let dues = copied_dues(alloc, &self.dues)?;
+        Ok(Records {
+            entries: Owned::from_vec(alloc, entries)?,
+            dues: Owned::from_vec(alloc, dues)?,
+        })
+    }
+}

@@ -1,0 +1,4 @@
+pub mod Boxed
+pub mod BoxedFalls
+pub mod BoxedLeft
+pub mod BoxedParts
