@@ -4,20 +4,24 @@ use crate::fault::Fault;
 use crate::shown::json;
 use cat_process::contents::{contents, wanted};
 use cat_process::result::result;
+use cat_table::map::Map;
 use cat_tree::text::Text;
 use cat_types::issue::Issue;
 use cat_types::node::Node;
-use cat_types::table::Table;
 use cat_types::work::{Outcome, Output, Work};
 use std::alloc::Global;
 
 // The result of an entity over a shelf that has the second field, where it isn't empty, under `file:/r.json`.
 fn outcome(alloc: Global, case: &Case) -> Result<Outcome, Fault> {
     let tree = Node::new(alloc, case.tree(alloc, 1)?)?;
-    let mut shelf = Table::new(alloc);
+    let mut shelf = Map::new();
     let body = case.text(2);
     if !body.is_empty() {
-        shelf.put(Text::of(alloc, "file:/r.json")?, Text::of(alloc, body)?)?;
+        shelf.put(
+            alloc,
+            Text::of(alloc, "file:/r.json")?,
+            Text::of(alloc, body)?,
+        )?;
     }
     let contents = contents(alloc, &tree, &shelf)?;
     Ok(result(alloc, &Work { tree, contents })?)

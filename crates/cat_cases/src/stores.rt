@@ -71,13 +71,13 @@ fn push_records(out: &mut String, alloc: Global, candidate: &Candidate) -> Resul
 }
 
 fn push_others(out: &mut String, alloc: Global, candidate: &Candidate) -> Result<(), AllocError> {
-    for (name, inputs) in candidate.state.providers.as_slice() {
+    for (name, inputs) in candidate.state.providers.iter() {
         let name = name.as_str();
         let serial = inputs.serial;
         let items = inputs.items.len();
         out.push_str(format!(in alloc; " {name}:{serial}*{items}")?.as_str())?;
     }
-    for (name, body) in candidate.state.shelf.as_slice() {
+    for (name, body) in candidate.state.shelf.iter() {
         let name = name.as_str();
         let body = body.as_str();
         out.push_str(format!(in alloc; " {name}:{body}")?.as_str())?;

@@ -18,8 +18,8 @@ use cat_ref::reference::Ref;
 use cat_table::key::Key;
 use cat_table::listing::{Copied, Listing};
 use cat_table::map::Map;
+use cat_types::entries::Entries;
 use cat_types::input::Offered;
-use cat_types::table::Table;
 use std::alloc::{AllocError, Global};
 use std::cmp::Ordering;
 
@@ -44,7 +44,7 @@ impl Offering for OfferedItems {
     }
 }
 
-impl Offering for Table<Ref, Offered> {
+impl Offering for Entries<Ref, Offered> {
     ghost offers = { get };
 
     fn offer(&self, reference: &Ref) -> Option<&Offered> {

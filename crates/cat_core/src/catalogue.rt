@@ -50,7 +50,6 @@ use cat_tree::text::Text;
 use cat_types::input::Mutation;
 use cat_types::issue::Issue;
 use cat_types::node::Node;
-use cat_types::table::Table;
 use std::alloc::{AllocError, Global};
 use std::marker::{Model, PhantomData};
 use std::mem;
@@ -103,8 +102,8 @@ fn empty_state(alloc: Global) -> State
     ensures { result ≡ start }
 {
     State {
-        providers: Table::new(alloc),
-        shelf: Table::new(alloc),
+        providers: Map::new(),
+        shelf: Map::new(),
         rows: IndexedRows::new(),
         holders: Map::new(),
         records: Records::new(),

@@ -3,10 +3,10 @@ ghost use Rattle.std.specs.Prelude.{◌≡◌, IfOk, IsTrue, length, option_map}
 ghost use Rattle.std.specs.declared.option.Option.TheVariants.{Some};
 ghost use Rattle.std.specs.FinMap.Entries.{is_sorted};
 ghost use Rattle.std.specs.List.{filter};
-ghost use Rattle.cat_table.specs.Table.{keys, text_cmp};
+ghost use Rattle.cat_table.specs.Table.{text_cmp};
 ghost use Rattle.cat_frame.specs.Linked.{AreLinked, AreRecorded};
 ghost use Rattle.cat_model.specs.Reply.{is_leased, is_live, is_quiet, issues_at, next_mark, next_stitch, placed, resting, state_counts};
-ghost use Rattle.cat_model.specs.Settle.{is_due, is_empty};
+ghost use Rattle.cat_model.specs.Settle.{is_due};
 ghost use Rattle.cat_model.specs.Sound.{its_number};
 
 use cat_events::done::Stitched;
@@ -22,24 +22,11 @@ use cat_table::listing::{Copied, Listing};
 use cat_types::issue::Issue;
 use std::alloc::{AllocError, Global};
 
-// Whether none of these records is due.
-fn none_due(records: &Records, now: u64) -> bool
-    ensures { result ≡ is_empty (keys (filter (λ e. is_due now (Some e.1)) records.now)) }
-{
-    for (_, kept) in records.iter() {
-        if due(now, Some(kept)) {
-            return false;
-        }
-    }
-    true
-}
-
 /// Whether no record is due at this moment and no reference is marked.
 pub(crate) fn is_quiet(m: &State, now: u64) -> bool
-    requires { IsTrue (is_sorted text_cmp m.now.records) }
     ensures { result ≡ is_quiet m.now now }
 {
-    none_due(&m.records, now) && m.marks.len() == 0
+    m.records.is_none_due(now) && m.marks.len() == 0
 }
 
 // How many of these records are due.

@@ -1,13 +1,17 @@
 -- The own changes of events, and what they reach.
-use Rattle.std.proofs.Common.{◌≡◌, ℕ, Bool, true, false, not, ◌&&◌, List, [], ◌++◌, MatchBool, refl, sym, ap, subst, ◌∙◌, is_some, true≢false}
+use Rattle.std.proofs.Common.{◌≡◌, ℕ, Bool, true, false, not, ◌&&◌, ◌||◌, List, [], ◌∷◌, ◌++◌, MatchBool, refl, sym, ap, subst, ◌∙◌, is_some, true≢false}
 use Rattle.std.specs.declared.option.Option.TheVariants.{None, Some}
-use Rattle.std.specs.List.{filter, list_any}
+use Rattle.std.specs.declared.option.Option.{Option}
+use Rattle.std.specs.Option.{option_and_then, option_map}
+use Rattle.std.specs.Cmp.{nat_cmp_total}
+use Rattle.std.specs.FinMap.{nat_cmp-IsAntisymmetric}
+use Rattle.std.specs.Ordering.{eq_by_cmp, nat_cmp}
+use Rattle.std.specs.List.{cons_option, filter, filter_map, list_any}
 use Rattle.std.specs.List.Sorted.{IsStrictlySortedBy}
 use Rattle.std.proofs.lemmas.List.Folds.{list_any-append}
-use Rattle.std.specs.FinMap.Entries.{is_some-find}
 use Rattle.cat_table.specs.Table.{Text, get, keys, same_text, text_cmp}
 use Rattle.cat_table.proofs.Orders.{has-filter, in_order-rises}
-use Rattle.cat_table.proofs.Tables.{or_false_first, or_false_second, text_antisymmetric, text_total}
+use Rattle.cat_table.proofs.Tables.{or_false_first, or_false_second, or_true, same_is, same_self, text_antisymmetric, text_total}
 use Rattle.cat_types.specs.declared.work.Outcome.{Outcome}
 use Rattle.cat_types.specs.declared.work.Outcome.TheVariants.{Good, Bad}
 use Rattle.cat_model.specs.declared.types.Given.{Given}
@@ -19,7 +23,11 @@ use Rattle.cat_model.specs.declared.types.ProviderInputs.{ProviderInputs}
 use Rattle.cat_model.specs.declared.types.Record.{Record}
 use Rattle.cat_model.specs.declared.types.Settings.{Settings}
 use Rattle.cat_model.specs.declared.types.State.{State}
-use Rattle.cat_model.specs.Catalogue.{Holders, Offers, Ref, Rows, Rules, Shelf, held, holding, rehold, reheld, standing, work}
+use Rattle.cat_model.specs.Catalogue.{Holders, Offers, Ref, Rows, Rules, Shelf, held, holding, rehold, reheld, standing, work, work_of}
+use Rattle.cat_model.specs.declared.types.Row.{Row}
+use Rattle.cat_model.specs.Rows.{may_read, reading, row_at}
+use Rattle.cat_target.specs.Targets.{read_names}
+use Rattle.cat_model.proofs.Named.{reading_has}
 use Rattle.cat_model.specs.Sound.{Sound}
 use Rattle.cat_model.specs.Step.{finished_record, finished_rows, finished_state, forgotten, items_after, mutated_state, replaced, source_at, with_record}
 use Rattle.cat_laws.proofs.Alone.{reheld_stays}
@@ -30,7 +38,7 @@ use Rattle.cat_frame.proofs.Owned.{finish_is_own, forget_is_own, reach_is}
 use Rattle.cat_claims.specs.Claimed.{IsClaimed, are_others}
 use Rattle.cat_events.specs.OwnChanges.{IsFinishing, IsMutating, finishing_alone, offered_refs}
 use Rattle.cat_events.specs.Planned.{IsOwned, IsReached}
-use Rattle.cat_events.specs.Shelf.{reads_other, with_shelf}
+use Rattle.cat_events.specs.Shelf.{DifferAt, readers_of, reads_other, with_shelf}
 use Rattle.cat_claims.specs.declared.types.Claimed.{Claimed}
 use Rattle.cat_events.specs.declared.plan.Inputs.TheVariants.{Same, Shelf as ShelfInputs}
 use Rattle.cat_events.specs.declared.plan.OwnChange.{OwnChange}
@@ -74,26 +82,84 @@ module _ (rules : Rules) (m : State) (sound : Sound rules m) (shelf : Shelf) (to
     token = refl;
   }
 
-  -- what isn't touched has the same work over both shelves
-  same_over : touched ≡ filter (reads_other rules shelf m) (keys m.holders) → (r : Ref) → list_any (same_text r) touched ≡ false → held m.holders r ≡ true → work rules m r ≡ work rules (held_state shelf m.rows m.holders m) r
-  same_over et r e before =
-      let among : list_any (same_text r) (keys m.holders) ≡ true = sym (is_some-find text_cmp r m.holders) ∙ before in
-      let passes : (reads_other rules shelf m r && true) ≡ false =
-      sym (has-filter text_total text_antisymmetric (reads_other rules shelf m) r (keys m.holders) ∙ ap (λ b. reads_other rules shelf m r && b) among)
-      ∙ (ap (list_any (same_text r)) (sym et) ∙ e) in
-      same_option-is rules.same_work rules.same_work-is (work rules m r) (work rules (held_state shelf m.rows m.holders m) r) (not_false _ (first (reads_other rules shelf m r) passes))
-    where
-      first : (b : Bool) → (b && true) ≡ false → b ≡ false
-      first true h = h
-      first false h = refl
+  -- over a shelf that differs under one name, what isn't touched has the same work
+  module _ (name : Text) (differ : DifferAt name m.shelf shelf) (et : touched ≡ filter (reads_other rules shelf m) (readers_of name m.rows)) where
+    -- the references of the rows with these arrivals
+    abbrev refs_in : List ℕ → List Text
+    refs_in l = filter_map (λ b. option_map (λ row. row.reference) (row_at m.rows b)) l
 
-  pub shelf_reached : touched ≡ filter (reads_other rules shelf m) (keys m.holders) → IsReached rules shelf_change m
-  shelf_reached et = record {
-    come = λ r. never (held m.holders r);
-    left = λ r. never (held m.holders r);
-    left_rise = none_rise;
-    others = λ r e before after. same_over et r e before;
-  }
+    -- a row that may read the name is among its readers
+    is_reader : (a : ℕ) (row : Row) → row_at m.rows a ≡ Some row → may_read name (Some row) ≡ true → list_any (same_text row.reference) (readers_of name m.rows) ≡ true
+    is_reader a row at reads = among_readers (reading m.rows name) (reading_has m.rows name a (ap (may_read name) at ∙ reads))
+      where
+        among_readers : (l : List ℕ) → list_any (eq_by_cmp nat_cmp a) l ≡ true → list_any (same_text row.reference) (refs_in l) ≡ true
+        among_readers [] h = absurd (true≢false (sym h))
+        among_readers (b ∷ l) h = go (eq_by_cmp nat_cmp a b) refl h (among_readers l)
+          where
+            after : (v : Option Text) → list_any (same_text row.reference) (refs_in l) ≡ true → list_any (same_text row.reference) (cons_option v (refs_in l)) ≡ true
+            after None k = k
+            after (Some x) k = or_true (same_text row.reference x) _ k
+
+            go : (c : Bool) → eq_by_cmp nat_cmp a b ≡ c → (c || list_any (eq_by_cmp nat_cmp a) l) ≡ true
+                → (list_any (eq_by_cmp nat_cmp a) l ≡ true → list_any (same_text row.reference) (refs_in l) ≡ true) → list_any (same_text row.reference) (cons_option (option_map (λ (x : Row). x.reference) (row_at m.rows b)) (refs_in l)) ≡ true
+            go true e h ih =
+                let same : a ≡ b = same_is nat_cmp_total nat_cmp-IsAntisymmetric a b e in
+                subst (λ (v : Option Row). list_any (same_text row.reference) (cons_option (option_map (λ (x : Row). x.reference) v) (refs_in l)) ≡ true) (sym at ∙ ap (row_at m.rows) same)
+                (ap (λ c. c || list_any (same_text row.reference) (refs_in l)) (same_self text_total text_antisymmetric row.reference))
+            go false e h ih = after (option_map (λ (x : Row). x.reference) (row_at m.rows b)) (ih h)
+
+    -- a row that can't read the name has the same work
+    unread : (row : Row) → may_read name (Some row) ≡ false → work_of rules m.shelf row.offered.tree ≡ work_of rules shelf row.offered.tree
+    unread row apart = λ i. record { tree = row.offered.tree; contents = rules.reads row.offered.tree m.shelf shelf (λ t reads. differ t (other t reads (same_text t name) refl)) i }
+      where
+        other : (t : Text) → list_any (same_text t) (read_names row.offered.tree) ≡ true → (c : Bool) → same_text t name ≡ c → same_text t name ≡ false
+        other t reads true e = absurd (true≢false (sym (ap (λ (q : Text). list_any (same_text q) (read_names row.offered.tree)) (sym (same_is text_total text_antisymmetric t name e)) ∙ reads) ∙ apart))
+        other t reads false e = e
+
+    same_over : (r : Ref) → list_any (same_text r) touched ≡ false → work rules m r ≡ work rules (held_state shelf m.rows m.holders m) r
+    same_over r e = of_holder (get m.holders r) refl
+      where
+        of_row : (a : ℕ) → get m.holders r ≡ Some a → (row : Row) → row_at m.rows a ≡ Some row → row.reference ≡ r → option_map (λ (x : Row). work_of rules m.shelf x.offered.tree) (Some row) ≡ option_map (λ (x : Row). work_of rules shelf x.offered.tree) (Some row)
+        of_row a h row at names = choose (may_read name (Some row)) refl
+          where
+            held_is : holding m.rows m.holders r ≡ Some row
+            held_is = ap (option_and_then (row_at m.rows)) h ∙ at
+
+            passes : may_read name (Some row) ≡ true → (reads_other rules shelf m r && true) ≡ false
+            passes reads =
+                sym (has-filter text_total text_antisymmetric (reads_other rules shelf m) r (readers_of name m.rows)
+                ∙ ap (λ b. reads_other rules shelf m r && b) (ap (λ (q : Text). list_any (same_text q) (readers_of name m.rows)) (sym names) ∙ is_reader a row at reads))
+                ∙ (ap (list_any (same_text r)) (sym et) ∙ e)
+
+            first : (b : Bool) → (b && true) ≡ false → b ≡ false
+            first true h = h
+            first false h = refl
+
+            choose : (c : Bool) → may_read name (Some row) ≡ c → option_map (λ (x : Row). work_of rules m.shelf x.offered.tree) (Some row) ≡ option_map (λ (x : Row). work_of rules shelf x.offered.tree) (Some row)
+            choose false apart = ap Some (unread row apart)
+            choose true reads =
+                ap (option_map (λ (x : Row). work_of rules m.shelf x.offered.tree)) (sym held_is)
+                ∙ (same_option-is rules.same_work rules.same_work-is (work rules m r) (work rules (held_state shelf m.rows m.holders m) r) (not_false _ (first (reads_other rules shelf m r) (passes reads)))
+                ∙ ap (option_map (λ (x : Row). work_of rules shelf x.offered.tree)) held_is)
+
+        of_holder : (v : Option ℕ) → get m.holders r ≡ v → work rules m r ≡ work rules (held_state shelf m.rows m.holders m) r
+        of_holder None h = ap (λ (v : Option ℕ). option_map (λ (x : Row). work_of rules m.shelf x.offered.tree) (option_and_then (row_at m.rows) v)) h
+            ∙ sym (ap (λ (v : Option ℕ). option_map (λ (x : Row). work_of rules shelf x.offered.tree) (option_and_then (row_at m.rows) v)) h)
+        of_holder (Some a) h =
+            let row = sound.holders.rows_of r a h in
+            ap (λ (v : Option ℕ). option_map (λ (x : Row). work_of rules m.shelf x.offered.tree) (option_and_then (row_at m.rows) v)) h
+            ∙ (ap (option_map (λ (x : Row). work_of rules m.shelf x.offered.tree)) row.at
+            ∙ (of_row a h row.row row.at row.names
+            ∙ (sym (ap (option_map (λ (x : Row). work_of rules shelf x.offered.tree)) row.at)
+            ∙ sym (ap (λ (v : Option ℕ). option_map (λ (x : Row). work_of rules shelf x.offered.tree) (option_and_then (row_at m.rows) v)) h))))
+
+    pub shelf_reached : IsReached rules shelf_change m
+    shelf_reached = record {
+      come = λ r. never (held m.holders r);
+      left = λ r. never (held m.holders r);
+      left_rise = none_rise;
+      others = λ r e before after. same_over r e;
+    }
 
 -- ---- claims
 

@@ -1,18 +1,17 @@
 -- Events that change one record alone, and orders that are present.
-use Rattle.std.specs.Prelude.{ℕ, Bool, true, false, ◌&&◌, [], ◌∷◌, unwrap_or}
+use Rattle.std.specs.Prelude.{Bool, true, false, ◌&&◌, [], ◌∷◌}
 use Rattle.std.specs.declared.option.Option.{Option}
 use Rattle.std.specs.declared.option.Option.TheVariants.{None, Some}
 use Rattle.cat_tree.specs.Same.{is_same}
-use Rattle.cat_table.specs.Table.{Map, put, same_text, text_cmp}
+use Rattle.cat_table.specs.Table.{Map, same_text}
 use Rattle.cat_types.specs.declared.input.Offered.{Offered}
 use Rattle.cat_types.specs.declared.work.Outcome.{Outcome}
 use Rattle.cat_types.specs.declared.work.Output.{Output}
 use Rattle.cat_types.specs.declared.work.Outcome.TheVariants.{Good, Bad}
-use Rattle.cat_model.specs.declared.types.Lease.{Lease}
 use Rattle.cat_model.specs.declared.types.Order.{Order}
 use Rattle.cat_model.specs.declared.types.Record.{Record}
 use Rattle.cat_model.specs.declared.types.State.{State}
-use Rattle.cat_model.specs.Catalogue.{Ref, Rules}
+use Rattle.cat_model.specs.Catalogue.{Rules}
 use Rattle.cat_model.specs.Step.{is_present}
 
 -- whether there is a record, and this is the order of its lease

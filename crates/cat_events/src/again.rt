@@ -1,12 +1,21 @@
 //! Results that offer what was offered before, as most do: they leave all rows as they are.
 ghost use Rattle.std.specs.Prelude.{◌≡◌, ◌&&◌, Option, Bool, option_map};
+ghost use Rattle.std.specs.Ordering.{eq_by_cmp};
 ghost use Rattle.cat_events.specs.Again.{kept_offers, offers_again, same_offer, same_offers};
 
-use crate::without::is_same;
 use cat_model::types::Record;
 use cat_ref::reference::Ref;
+use cat_table::key::Key;
 use cat_types::input::Offered;
 use cat_types::work::Outcome;
+use std::cmp::Ordering;
+
+// Whether two keys are one.
+fn is_same<K: Key>(left: &K, right: &K) -> bool
+    ensures { result ≡ eq_by_cmp K.order left.now right.now }
+{
+    left.compare(right) == Ordering::Equal
+}
 
 fn is_same_offer(offered: Option<&Offered>, other: &Offered) -> bool
     ensures { result ≡ same_offer (option_map (λ x. x.now) offered.entry) other.now }

@@ -1,27 +1,27 @@
 //! Shelf changes and forgets.
-ghost use Rattle.std.specs.Prelude.{◌≡◌, ◌≤◌, ◌^◌, IfOk, IsTrue, Option, Bool, [], is_some, not, option_map};
+ghost use Rattle.std.specs.Prelude.{◌≡◌, ◌≤◌, ◌^◌, ◌++◌, IfOk, IsTrue, Option, Bool, [], is_some, not, option_map};
 ghost use Rattle.std.specs.declared.option.Option.TheVariants.{None, Some};
 ghost use Rattle.std.specs.FinMap.Entries.{is_sorted};
-ghost use Rattle.std.specs.List.{filter};
-ghost use Rattle.cat_table.specs.Table.{first, get, keys, put, text_cmp};
+ghost use Rattle.std.specs.List.{cons_option, filter, filter_map};
+ghost use Rattle.cat_table.specs.Table.{get, put, text_cmp};
 ghost use Rattle.cat_frame.specs.Following.{held_state};
 ghost use Rattle.cat_frame.specs.Linked.{AreLinked};
 ghost use Rattle.cat_model.specs.declared.types.Leaving.TheVariants.{Deleted};
 ghost use Rattle.cat_model.specs.declared.types.Origin.TheVariants.{Entity};
 ghost use Rattle.cat_model.specs.Catalogue.{frame, same_option, work};
+ghost use Rattle.cat_model.specs.Rows.{row_at};
 ghost use Rattle.cat_model.specs.Step.{forgotten, replaced, without_key};
 ghost use Rattle.cat_model.specs.Step.Event.{Forget, ShelfDrop, ShelfPut};
 ghost use Rattle.cat_claims.specs.Claimed.{IsClaimed};
 ghost use Rattle.cat_events.specs.Coming.{HasCome, IsLinkedStep, IsSteady, seen};
 ghost use Rattle.cat_events.specs.Planned.{planned};
-ghost use Rattle.cat_events.specs.Shelf.{reads_other, with_shelf};
+ghost use Rattle.cat_events.specs.Shelf.{DifferAt, readers_of, reads_other, with_shelf};
 ghost use Rattle.cat_events.specs.Stepped.{come_to, is_known};
 
 use crate::claims::claimed_by_entity;
 use crate::plan::{Inputs, OwnChange, Plan, planned};
 use crate::refusal::{input_fault, unless, unless_spent};
 use crate::stepped::{Step, take_in};
-use crate::without::without;
 use cat_claims::replaced::Nothing;
 use cat_frame::change::Own;
 use cat_hold::build::{Passes, filtered};
@@ -29,11 +29,12 @@ use cat_hold::hold::row_of;
 use cat_hold::layers::Layers;
 use cat_hold::parts::{same_option_work, work_of};
 use cat_links::links::Links;
+use cat_model::rows::IndexedRows;
 use cat_model::types::{Fault, Leaving, Settings, State};
 use cat_ref::reference::Ref;
 use cat_table::listing::{Copied, Listing};
+use cat_table::map::Map;
 use cat_tree::text::Text;
-use cat_types::table::Table;
 use cat_types::work::Work;
 use std::alloc::{AllocError, Global};
 
@@ -43,11 +44,21 @@ fn shelf_with(
     name: &Text,
     text: &Text,
     m: &State,
-) -> Result<Table<Text, Text>, AllocError>
+) -> Result<Map<Text, Text>, AllocError>
     ensures { IfOk result (λ t. t ≡ put text_cmp name.now text.now m.now.shelf) }
 {
-    let mut shelf = m.shelf.duplicate(alloc)?;
-    shelf.put(name.duplicate(alloc)?, text.duplicate(alloc)?)?;
+    let mut shelf = m.shelf.share()?;
+    shelf.put(alloc, name.duplicate(alloc)?, text.duplicate(alloc)?)?;
+    Ok(shelf)
+}
+
+// The shelf without a text.
+fn shelf_without(alloc: Global, name: &Text, m: &State) -> Result<Map<Text, Text>, AllocError>
+    ensures { IfOk result (λ t. t ≡ without_key name.now m.now.shelf) }
+{
+    m.shelf.in_order();
+    let mut shelf = m.shelf.share()?;
+    shelf.remove(alloc, name)?;
     Ok(shelf)
 }
 
@@ -56,7 +67,7 @@ fn work_over<L: Layers>(
     alloc: Global,
     layers: &L,
     m: &State,
-    shelf: &Table<Text, Text>,
+    shelf: &Map<Text, Text>,
     reference: &Ref,
 ) -> Result<Option<Work>, AllocError>
     ensures { IfOk result (λ w. w ≡ work L.rules (held_state shelf.now m.now.rows m.now.holders m.now) reference.now) }
@@ -76,7 +87,7 @@ fn work_over<L: Layers>(
 struct ReadsOther<'a, L> {
     layers: &'a L,
     m: &'a State,
-    shelf: &'a Table<Text, Text>,
+    shelf: &'a Map<Text, Text>,
 }
 
 impl<L: Layers> Passes<Ref> for ReadsOther<'_, L> {
@@ -89,33 +100,67 @@ impl<L: Layers> Passes<Ref> for ReadsOther<'_, L> {
     }
 }
 
-// The held references whose work is another one over another shelf.
+// Pushes the reference of the row with this arrival, if there is one.
+fn push_reference(
+    alloc: Global,
+    rows: &IndexedRows,
+    arrival: u64,
+    references: &mut Vec<Ref>,
+) -> Result<(), AllocError>
+    ensures { IfOk result (λ _. references.new.items ≡ references.old.items ++ cons_option (option_map (λ row. row.reference) (row_at rows.now arrival)) []) }
+{
+    if let Some(row) = rows.get(&arrival) {
+        references.push(row.reference.duplicate(alloc)?)?;
+    }
+    Ok(())
+}
+
+// The references of the rows with these arrivals.
+fn references_of(
+    alloc: Global,
+    rows: &IndexedRows,
+    arrivals: &[u64],
+) -> Result<Vec<Ref>, AllocError>
+    ensures { IfOk result (λ l. l.items ≡ filter_map (λ a. option_map (λ row. row.reference) (row_at rows.now a)) arrivals.now) }
+{
+    let mut references = Vec::new(alloc);
+    for arrival in arrivals.iter() {
+        push_reference(alloc, rows, *arrival, &mut references)?;
+    }
+    Ok(references)
+}
+
+// The references of the rows that may read a name and whose work is another one over another shelf.
 fn readers<L: Layers>(
     alloc: Global,
     layers: &L,
     m: &State,
-    shelf: &Table<Text, Text>,
+    shelf: &Map<Text, Text>,
+    name: &Text,
 ) -> Result<Listing<Ref>, AllocError>
-    ensures { IfOk result (λ l. l ≡ filter (reads_other L.rules shelf.now m.now) (keys m.now.holders)) }
+    ensures { IfOk result (λ l. l ≡ filter (reads_other L.rules shelf.now m.now) (readers_of name.now m.now.rows)) }
 {
-    let all = m.holders.keys(alloc)?;
+    let arrivals = m.rows.reading(alloc, name)?;
+    let references = references_of(alloc, &m.rows, arrivals.as_slice())?;
     let reads = ReadsOther { layers, m, shelf };
-    filtered(alloc, all.as_slice(), &reads)
+    filtered(alloc, references.as_slice(), &reads)
 }
 
-// The plan of a change of the shelf.
+// The plan of a change of the shelf under one name.
 fn shelf_plan<L: Layers>(
     alloc: Global,
     layers: &L,
     m: &State,
     links: &Links,
-    shelf: Table<Text, Text>,
+    name: &Text,
+    shelf: Map<Text, Text>,
 ) -> Result<Plan, AllocError>
-    requires { IsSteady L.rules links.now m.now }
+    requires steady { IsSteady L.rules links.now m.now }
+    requires one { DifferAt name.now m.now.shelf shelf }
     ensures state { IfOk result (λ x. planned x m.now ≡ frame L.rules Deleted m.now (with_shelf shelf m.now)) }
     ensures linked { IfOk result (λ x. AreLinked L.rules x.following.links.after (planned x m.now)) }
 {
-    let touched = readers(alloc, layers, m, &shelf)?;
+    let touched = readers(alloc, layers, m, &shelf, name)?;
     let own = OwnChange {
         how: Leaving::Deleted,
         own: None,
@@ -142,7 +187,7 @@ fn shelf_put_step<L: Layers>(
     ensures linked { IfOk result (λ o. IsLinkedStep L.rules o m.now) }
 {
     let shelf = shelf_with(alloc, name, text, m)?;
-    let plan = shelf_plan(alloc, layers, m, links, shelf)?;
+    let plan = shelf_plan(alloc, layers, m, links, name, shelf)?;
     let fault = input_fault(alloc, layers, settings, &plan, m)?;
     let o = unless(fault, plan);
     Ok(o)
@@ -168,8 +213,8 @@ fn shelf_drop_step<L: Layers>(
     ensures linked { IfOk result (λ o. IsLinkedStep L.rules o m.now) }
 {
     if has_name(m, name) {
-        let shelf = without(alloc, name, &m.shelf)?;
-        let plan = shelf_plan(alloc, layers, m, links, shelf)?;
+        let shelf = shelf_without(alloc, name, m)?;
+        let plan = shelf_plan(alloc, layers, m, links, name, shelf)?;
         let o = unless_spent(plan, m);
         Ok(o)
     } else {

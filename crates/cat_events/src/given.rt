@@ -6,8 +6,8 @@ use cat_model::types::Given;
 use cat_ref::reference::Ref;
 use cat_table::listing::{Copied, Listing};
 use cat_tree::text::Text;
+use cat_types::entries::Entries;
 use cat_types::input::{Item, Mutation, Offered};
-use cat_types::table::Table;
 use std::alloc::{AllocError, Global};
 
 // The key of a provider's item that names none.
@@ -28,7 +28,11 @@ fn key_of(alloc: Global, provider: &Text, key: &Option<Text>) -> Result<Text, Al
     }
 }
 
-fn offers(alloc: Global, provider: &Text, items: &[Item]) -> Result<Table<Ref, Offered>, AllocError>
+fn offers(
+    alloc: Global,
+    provider: &Text,
+    items: &[Item],
+) -> Result<Entries<Ref, Offered>, AllocError>
     ensures { IfOk result (λ t. t ≡ offers_of provider.now items.now) }
 {
     let mut entries = Vec::new(alloc);
@@ -38,7 +42,7 @@ fn offers(alloc: Global, provider: &Text, items: &[Item]) -> Result<Table<Ref, O
         let tree = item.tree.duplicate(alloc)?;
         entries.push((reference, Offered { key, tree }))?;
     }
-    Ok(Table::from_vec(entries))
+    Ok(Entries::from_vec(entries))
 }
 
 /// A mutation as it acts on a provider's items: an item that names no key has the provider's.

@@ -23,4 +23,3 @@ pub mod present;
 pub mod refusal;
 pub mod stepped;
 pub mod stitch;
-pub mod without;

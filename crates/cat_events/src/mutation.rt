@@ -28,9 +28,9 @@ use cat_links::links::Links;
 use cat_model::types::{Fault, Given, Leaving, Origin, ProviderInputs, Settings, State};
 use cat_ref::reference::Ref;
 use cat_table::listing::{Copied, Listing};
+use cat_table::map::Map;
 use cat_tree::text::Text;
 use cat_types::input::Offered;
-use cat_types::table::Table;
 use std::alloc::{AllocError, Global};
 
 // The provider's inputs, none at first.
@@ -99,11 +99,11 @@ fn providers_with(
     p: &Text,
     inputs: ProviderInputs,
     m: &State,
-) -> Result<Table<Text, ProviderInputs>, AllocError>
+) -> Result<Map<Text, ProviderInputs>, AllocError>
     ensures { IfOk result (λ t. t ≡ put text_cmp p.now inputs m.now.providers) }
 {
-    let mut providers = m.providers.duplicate(alloc)?;
-    providers.put(p.duplicate(alloc)?, inputs)?;
+    let mut providers = m.providers.share()?;
+    providers.put(alloc, p.duplicate(alloc)?, inputs)?;
     Ok(providers)
 }
 

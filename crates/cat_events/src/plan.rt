@@ -17,15 +17,14 @@ use cat_ref::reference::Ref;
 use cat_table::listing::Listing;
 use cat_table::map::Map;
 use cat_tree::text::Text;
-use cat_types::table::Table;
 use std::alloc::{AllocError, Global};
 
 /// The table of inputs that is another one after an event.
 #[derive(Drop)]
 pub enum Inputs {
     Same,
-    Providers(Table<Text, ProviderInputs>),
-    Shelf(Table<Text, Text>),
+    Providers(Map<Text, ProviderInputs>),
+    Shelf(Map<Text, Text>),
 }
 
 /// An event's own change: what becomes of records that leave, the reference that it is about, the inputs after it, who holds
@@ -48,7 +47,7 @@ pub struct Plan {
 }
 
 /// The shelf after an event.
-pub fn shelf_after<'a>(inputs: &'a Inputs, shelf: &'a Table<Text, Text>) -> &'a Table<Text, Text>
+pub fn shelf_after<'a>(inputs: &'a Inputs, shelf: &'a Map<Text, Text>) -> &'a Map<Text, Text>
     ensures { result.now ≡ shelf_after inputs.now shelf.now }
 {
     match inputs {

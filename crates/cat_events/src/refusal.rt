@@ -13,8 +13,8 @@ use crate::stepped::Step;
 use cat_claims::types::Claimed;
 use cat_hold::layers::Layers;
 use cat_model::types::{Counter, Fault, ProviderInputs, Settings, State};
+use cat_table::map::Map;
 use cat_tree::text::Text;
-use cat_types::table::Table;
 use std::alloc::{AllocError, Global};
 
 /// No counter passes this.
@@ -50,8 +50,8 @@ pub fn spent_after(plan: &Plan, m: &State) -> Option<Fault>
 
 fn providers_after<'a>(
     inputs: &'a Inputs,
-    providers: &'a Table<Text, ProviderInputs>,
-) -> &'a Table<Text, ProviderInputs>
+    providers: &'a Map<Text, ProviderInputs>,
+) -> &'a Map<Text, ProviderInputs>
     ensures { result.now ≡ providers_after inputs.now providers.now }
 {
     match inputs {

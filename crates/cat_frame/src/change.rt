@@ -5,7 +5,6 @@ ghost use Rattle.cat_table.specs.Order.{in_order};
 ghost use Rattle.cat_frame.specs.Linked.{is_own};
 ghost use Rattle.cat_frame.specs.Following.{kept_now, orphan_then, own_reference, own_refs, record_then};
 
-use crate::order::in_order;
 use cat_hold::hold::is_held;
 use cat_links::links::Links;
 use cat_model::rows::IndexedRows;
@@ -15,7 +14,7 @@ use cat_table::key::Key;
 use cat_table::listing::Copied;
 use cat_table::map::Map;
 use cat_tree::text::Text;
-use cat_types::table::Table;
+use cat_types::sorted::{append, in_order};
 use std::alloc::{AllocError, Global};
 use std::cmp::Ordering;
 
@@ -36,7 +35,7 @@ pub struct Change<'a> {
     pub own: &'a Option<Own>,
     pub m: &'a State,
     pub links: &'a Links,
-    pub shelf: &'a Table<Text, Text>,
+    pub shelf: &'a Map<Text, Text>,
     pub rows: &'a IndexedRows,
     pub holders: &'a Map<Ref, u64>,
     pub fresh: &'a [Ref],
@@ -90,16 +89,6 @@ pub fn kept_now<'a>(change: &Change<'a>, reference: &Ref) -> Option<&'a Record>
     } else {
         None
     }
-}
-
-// Appends copies.
-fn append(alloc: Global, list: &mut Vec<Ref>, more: &[Ref]) -> Result<(), AllocError>
-    ensures { IfOk result (λ _. list.new.items ≡ list.old.items ++ more.now) }
-{
-    for reference in more {
-        list.push(reference.duplicate(alloc)?)?;
-    }
-    Ok(())
 }
 
 // The reference that the event is about, if there is one.

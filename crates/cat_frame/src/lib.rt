@@ -11,7 +11,6 @@ pub mod change;
 pub mod following;
 pub mod link_plan;
 pub mod mark_plan;
-mod order;
 pub mod orphan_plan;
 pub mod parts;
 pub mod record_plan;

@@ -8,7 +8,6 @@ ghost use Rattle.cat_links.specs.Links.{relations_of};
 ghost use Rattle.cat_frame.specs.Linked.{AreLinked, AreRecorded, linked_from, linked_orphan, linked_record};
 ghost use Rattle.cat_model.specs.Catalogue.{parts};
 
-use crate::order::is_among;
 use cat_hold::layers::Layers;
 use cat_hold::parts::{append, relations_from};
 use cat_links::links::{LinkPlan, Links};
@@ -16,6 +15,7 @@ use cat_model::types::{Orphan, Record, State};
 use cat_ref::reference::Ref;
 use cat_table::listing::{Copied, Listing};
 use cat_types::parts::Parts;
+use cat_types::sorted::is_among;
 use std::alloc::{AllocError, Global};
 
 fn orphan_parts<L: Layers>(
@@ -126,5 +126,5 @@ pub fn is_relinked(plan: &LinkPlan, reference: &Ref, kept: Option<&Record>) -> b
     requires { IsStrictlySortedBy text_cmp plan.now.changed }
     ensures { result ≡ (list_any (same_text reference.now) plan.now.changed && is_some (option_and_then (λ x. x.output) (option_map (λ x. x.now) kept.entry))) }
 {
-    is_among(plan.changed(), reference) && has_output(kept)
+    is_among(reference, plan.changed()) && has_output(kept)
 }

@@ -21,7 +21,7 @@ use cat_hold::parts::{same_option_work, work_of};
 use cat_model::types::{Orphan, Record};
 use cat_ref::reference::Ref;
 use cat_table::listing::{Copied, Listing};
-use cat_types::table::Table;
+use cat_types::entries::Entries;
 use cat_types::work::Work;
 use std::alloc::{AllocError, Global};
 
@@ -134,7 +134,7 @@ fn kept_put(
 struct RecordPut<'l, 'c, 'n, L> {
     layers: &'l L,
     change: &'c Change<'c>,
-    numbers: &'n Table<Ref, u64>,
+    numbers: &'n Entries<Ref, u64>,
 }
 
 impl<L: Layers> Gives<Ref, Record> for RecordPut<'_, '_, '_, L> {
@@ -180,7 +180,7 @@ fn records<L: Layers>(
     alloc: Global,
     layers: &L,
     change: &Change<'_>,
-    numbers: &Table<Ref, u64>,
+    numbers: &Entries<Ref, u64>,
     reached: &[Ref],
 ) -> Result<Amendment<Record>, AllocError>
     ensures put { IfOk result (λ x. x.put.items ≡ entries_of (record_put L.rules change.now.own.now numbers.now change.now.m.now
@@ -218,7 +218,7 @@ pub fn plan_records<L: Layers>(
     let drawn = filtered(alloc, all.as_slice(), &DrawsNumber { change })?;
     let count = count_of(drawn.as_slice()) as u64;
     let entries = numbered(alloc, change.m.number, drawn.as_slice())?;
-    let numbers = Table::from_vec(entries);
+    let numbers = Entries::from_vec(entries);
     let records = records(alloc, layers, change, &numbers, all.as_slice())?;
     let orphans = plan_orphans(alloc, change, all.as_slice())?;
     Ok(RecordPlan {

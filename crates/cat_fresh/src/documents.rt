@@ -18,7 +18,6 @@ use cat_types::issue::Issue;
 use cat_types::node::Node;
 use cat_types::parts::Parts;
 use cat_types::relation::Relation;
-use cat_types::table::Table;
 use cat_types::work::{Outcome, Output, Work};
 use std::alloc::{AllocError, Global};
 
@@ -180,7 +179,7 @@ pub fn documents_afresh<L: Layers>(
     alloc: Global,
     layers: &L,
     m: &State,
-) -> Result<Table<Ref, Node>, AllocError>
+) -> Result<Map<Ref, Node>, AllocError>
     ensures { IfOk result (λ t. t ≡ fresh_docs L.rules (facts_of L.rules m.now)) }
 {
     let relations = all_emitted(alloc, layers, m)?;

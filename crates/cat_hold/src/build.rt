@@ -1,13 +1,14 @@
-//! Tables and lists that are made key by key.
+//! Maps and lists that are made key by key.
 ghost use Rattle.std.specs.Prelude.{◌≡◌, true, IfOk};
 ghost use Rattle.std.specs.List.{filter};
 ghost use Rattle.std.specs.List.Sorted.{IsStrictlySortedBy};
-ghost use Rattle.cat_table.specs.Order.{in_order};
 ghost use Rattle.cat_table.specs.Table.{first, tabulate};
 
 use cat_table::key::Key;
 use cat_table::listing::{Copied, Listing};
-use cat_types::table::Table;
+use cat_table::map::Map;
+use cat_table::tree::MOST;
+use cat_types::sorted::{append, in_order};
 use std::alloc::{AllocError, Global};
 use std::cmp::Ordering;
 
@@ -52,7 +53,7 @@ fn in_turn<K: Key + Copied + Drop, X: Drop, F: Gives<K, X>>(
     alloc: Global,
     keys: &[K],
     f: &F,
-) -> Result<Table<K, X>, AllocError>
+) -> Result<Map<K, X>, AllocError>
     requires { IsStrictlySortedBy K.order keys.now }
     ensures { IfOk result (λ t. t ≡ tabulate K.order keys.now (F.gives f.now)) }
 {
@@ -62,20 +63,10 @@ fn in_turn<K: Key + Copied + Drop, X: Drop, F: Gives<K, X>>(
             made.push((key.duplicate(alloc)?, value))?;
         }
     }
-    Ok(Table::from_vec(made))
-}
-
-// Copies of the keys in order, each once.
-fn in_order<K: Key + Copied + Drop>(alloc: Global, keys: &[K]) -> Result<Vec<K>, AllocError>
-    ensures { IfOk result (λ ks. ks.items ≡ in_order K.order keys.now) }
-{
-    let mut sorted = Vec::new(alloc);
-    for key in keys {
-        sorted.push(key.duplicate(alloc)?)?;
+    if made.len() > MOST {
+        return Err(AllocError);
     }
-    sorted.sort_unstable_by(|left, right| left.compare(right));
-    sorted.dedup_by(|later, earlier| later.compare(earlier) == Ordering::Equal);
-    Ok(sorted)
+    Map::from_vec(alloc, made)
 }
 
 // Keys in whatever order are put in order first.
@@ -83,20 +74,22 @@ fn out_of_turn<K: Key + Copied + Drop, X: Drop, F: Gives<K, X>>(
     alloc: Global,
     keys: &[K],
     f: &F,
-) -> Result<Table<K, X>, AllocError>
+) -> Result<Map<K, X>, AllocError>
     ensures { IfOk result (λ t. t ≡ tabulate K.order keys.now (F.gives f.now)) }
 {
-    let sorted = in_order(alloc, keys)?;
+    let mut copies = Vec::new(alloc);
+    append(alloc, &mut copies, keys)?;
+    let sorted = in_order(copies);
     in_turn(alloc, sorted.as_slice(), f)
 }
 
-/// The table of the values that the function gives these keys, in order of the keys; a key without a value is left out. Keys
+/// The map of the values that the function gives these keys, in order of the keys; a key without a value is left out. Keys
 /// that rise are asked as they stand, others are sorted first.
 pub fn tabulated<K: Key + Copied + Drop, X: Drop, F: Gives<K, X>>(
     alloc: Global,
     keys: &[K],
     f: &F,
-) -> Result<Table<K, X>, AllocError>
+) -> Result<Map<K, X>, AllocError>
     ensures { IfOk result (λ t. t ≡ tabulate K.order keys.now (F.gives f.now)) }
 {
     if rise(keys) {

@@ -4,11 +4,11 @@ ghost use Rattle.std.specs.Prelude.{◌≡◌, IfOk};
 use cat_model::types::ProviderInputs;
 use cat_ref::reference::Ref;
 use cat_table::listing::Listing;
+use cat_table::map::Map;
 use cat_tree::text::Text;
 use cat_types::node::Node;
 use cat_types::parts::Parts;
 use cat_types::relation::Relation;
-use cat_types::table::Table;
 use cat_types::work::{Content, Outcome, Work};
 use std::alloc::{AllocError, Global};
 
@@ -25,7 +25,7 @@ pub trait Layers {
         &self,
         alloc: Global,
         tree: &Node,
-        shelf: &Table<Text, Text>,
+        shelf: &Map<Text, Text>,
     ) -> Result<Listing<Content>, AllocError>
         ensures { IfOk result (λ x. x ≡ rules.contents tree.now shelf.now) };
 
@@ -50,8 +50,8 @@ pub trait Layers {
     fn bytes(
         &self,
         alloc: Global,
-        providers: &Table<Text, ProviderInputs>,
-        shelf: &Table<Text, Text>,
+        providers: &Map<Text, ProviderInputs>,
+        shelf: &Map<Text, Text>,
     ) -> Result<u64, AllocError>
         ensures { IfOk result (λ x. x ≡ rules.bytes providers.now shelf.now) };
 

@@ -6,6 +6,7 @@ use denote.RattleType.{RattleType}
 use denote.Struct.Field.{row_field}
 use denote.Struct.Tuple.{Tuple, tuple_type}
 use Rattle.std.proofs.Crossing.{crosses, Arc-send, Arc-sync}
+use Rattle.cat_tree.specs.contracts.text.Text as Text
 use Rattle.cat_tree.specs.contracts.tree.Tree as Tree
 use Rattle.cat_table.specs.declared.key.Key as Key
 use Rattle.cat_table.specs.contracts.map.Map as Map
@@ -83,8 +84,20 @@ offered_sync = search known depth 60
 items_send : IsSend OfferedItems.the_row
 items_send = view_send _ _ _ _ _ (declared_send counted.the_type (search (Map-send, offered_send, offered_sync, known) depth 60, (search known depth 60, tt)))
 
+items_sync : IsSync OfferedItems.the_row
+items_sync = view_sync _ _ _ _ _ (declared_sync counted.the_type (search (Map-sync, offered_send, offered_sync, known) depth 60, (search known depth 60, tt)))
+
 inputs_send : IsSend ProviderInputs.the_row
 inputs_send = declared_send ProviderInputs.the_type (search known depth 60, (search (items_send, known) depth 60, tt))
+
+inputs_sync : IsSync ProviderInputs.the_row
+inputs_sync = declared_sync ProviderInputs.the_type (search known depth 60, (search (items_sync, known) depth 60, tt))
+
+text_send : IsSend Text.the_row
+text_send = search known depth 40
+
+text_sync : IsSync Text.the_row
+text_sync = search known depth 40
 
 row_send : IsSend Row.the_row
 row_send = search known depth 60
@@ -95,7 +108,7 @@ row_sync = search known depth 60
 rows_send : IsSend IndexedRows.the_row
 rows_send = view_send _ _ _ _ _ (declared_send indexed.the_type (
   search (Map-send, row_send, row_sync, known) depth 60,
-  (search (Map-send, Map-sync, known) depth 60, (search (Map-send, Map-sync, known) depth 60, tt)),
+  (search (Map-send, Map-sync, known) depth 60, (search (Map-send, Map-sync, known) depth 60, (search (Map-send, Map-sync, text_send, text_sync, known) depth 60, tt))),
 ))
 
 marks_send : IsSend Marks.the_row
@@ -118,9 +131,9 @@ records_send = view_send _ _ _ _ _ (declared_send recorded.the_type (
 
 pub state_send : IsSend State.the_row
 state_send = declared_send State.the_type (
-  search (inputs_send, known) depth 60,
+  search (Map-send, inputs_send, inputs_sync, text_send, text_sync, known) depth 60,
   (
-    search known depth 60,
+    search (Map-send, text_send, text_sync, known) depth 60,
     (
       search (rows_send, known) depth 60,
       (

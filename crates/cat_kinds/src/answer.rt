@@ -7,14 +7,13 @@ ghost use Rattle.cat_kinds.specs.Kinds as spec;
 use crate::mention::{Mention, mentions};
 use cat_ref::fault::RefFault;
 use cat_ref::reference::{Ref, parse, text_at};
-use cat_table::key::Key;
 use cat_table::listing::Listing;
 use cat_tree::ask::grandchild;
 use cat_tree::text::Text;
 use cat_tree::tree::Tree;
 use cat_types::relation::{RelKind, Relation};
+use cat_types::sorted::in_order;
 use std::alloc::{AllocError, Global};
-use std::cmp::Ordering;
 
 /// A reference field that has no reading: its dotted path, as `spec.owner` or `spec.dependsOn.0`, and why.
 #[derive(Drop)]
@@ -150,15 +149,6 @@ impl Findings {
     }
 }
 
-// Each relation once, by source, name of the kind, and target.
-fn in_order(mut stated: Vec<Relation>) -> Listing<Relation>
-    ensures { result ≡ spec.in_order stated.items }
-{
-    stated.sort_unstable_by(|left, right| left.compare(right));
-    stated.dedup_by(|later, earlier| later.compare(earlier) == Ordering::Equal);
-    Listing::from_vec(stated)
-}
-
 // What the reference fields say, as it was found.
 #[tactic(auto, unfolding(crate::specs::Kinds::kind_faults, crate::specs::Kinds::relations_of))]
 fn read_all(alloc: Global, tree: &Tree, reference: &Ref) -> Result<Findings, AllocError>
@@ -184,7 +174,7 @@ pub fn relations(alloc: Global, tree: &Tree, reference: &Ref) -> Result<KindAnsw
 {
     let found = read_all(alloc, tree, reference)?;
     if found.faults.is_empty() {
-        Ok(KindAnswer::Relations(in_order(found.stated)))
+        Ok(KindAnswer::Relations(Listing::from_vec(in_order(found.stated))))
     } else {
         Ok(KindAnswer::Faults(Listing::from_vec(found.faults)))
     }

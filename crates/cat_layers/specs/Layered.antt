@@ -8,9 +8,10 @@ use Rattle.cat_kinds.specs.declared.answer.KindAnswer.{KindAnswer}
 use Rattle.cat_kinds.specs.declared.answer.KindAnswer.TheVariants.{Faults, Relations}
 use Rattle.cat_process.specs.Process.{contents_of, result_of, shelf_refs}
 use Rattle.cat_process.proofs.OnShelf.{offered_on_shelf}
+use Rattle.cat_process.proofs.Reading.{contents_agree}
 use Rattle.cat_stitch.specs.Document.{document}
-use Rattle.cat_same.specs.Same.{same_work, same_parts}
-use Rattle.cat_same.proofs.Laws.{work_is, work_self, parts_is, parts_self}
+use Rattle.cat_types.specs.Same.{same_work, same_parts}
+use Rattle.cat_types.proofs.Alike.{work_is, work_self, parts_is, parts_self}
 use Rattle.cat_layers.specs.Bytes.{stored_bytes}
 use Rattle.cat_model.specs.Catalogue.{Rules}
 
@@ -39,4 +40,5 @@ layered = record {
   same_work-self = work_self;
   same_parts-self = parts_self;
   offers_on_shelf = offered_on_shelf;
+  reads = contents_agree;
 }

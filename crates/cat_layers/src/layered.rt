@@ -9,14 +9,14 @@ use cat_model::types::ProviderInputs;
 use cat_process::contents::contents;
 use cat_process::result::result;
 use cat_ref::reference::Ref;
-use cat_same::same::{parts_alike, works_alike};
 use cat_stitch::document::document;
 use cat_table::listing::Listing;
+use cat_table::map::Map;
 use cat_tree::text::Text;
 use cat_types::node::Node;
 use cat_types::parts::Parts;
 use cat_types::relation::Relation;
-use cat_types::table::Table;
+use cat_types::same::{parts_alike, works_alike};
 use cat_types::work::{Content, Outcome, Work};
 use std::alloc::{AllocError, Global};
 
@@ -44,7 +44,7 @@ impl Layers for Layered {
         &self,
         alloc: Global,
         tree: &Node,
-        shelf: &Table<Text, Text>,
+        shelf: &Map<Text, Text>,
     ) -> Result<Listing<Content>, AllocError> {
         contents(alloc, tree, shelf)
     }
@@ -69,8 +69,8 @@ impl Layers for Layered {
     fn bytes(
         &self,
         _alloc: Global,
-        providers: &Table<Text, ProviderInputs>,
-        shelf: &Table<Text, Text>,
+        providers: &Map<Text, ProviderInputs>,
+        shelf: &Map<Text, Text>,
     ) -> Result<u64, AllocError> {
         Ok(stored_bytes(providers, shelf))
     }

@@ -13,4 +13,3 @@
 mod counts;
 pub mod links;
 mod moved;
-mod order;

@@ -6,10 +6,9 @@ ghost use Rattle.cat_types.specs.Relation.{relation_cmp};
 ghost use Rattle.cat_table.specs.Order.{in_order};
 ghost use Rattle.cat_links.specs.Links.{has, only_in};
 
-use crate::order::{append, in_order};
-use cat_table::key::Key;
 use cat_table::listing::Copied;
 use cat_types::relation::Relation;
+use cat_types::sorted::{append, in_order, is_among};
 use std::alloc::{AllocError, Global};
 
 /// What only the later of two lists has, and what only the earlier has, in order, each once.
@@ -26,16 +25,6 @@ fn distinct(alloc: Global, relations: &[Relation]) -> Result<Vec<Relation>, Allo
     let mut list = Vec::new(alloc);
     append(alloc, &mut list, relations)?;
     Ok(in_order(list))
-}
-
-// Whether a relation is among relations in order. It is found by halving.
-fn is_among(relation: &Relation, relations: &[Relation]) -> bool
-    requires { IsStrictlySortedBy relation_cmp relations.now }
-    ensures { result ≡ has relation.now relations.now }
-{
-    relations
-        .binary_search_by(|other| relation.compare(other).reverse())
-        .is_ok()
 }
 
 // Copies of the relations that aren't among others in order.

@@ -1,6 +1,5 @@
 -- The indices of rows of which one is put, replaced or removed.
-use Rattle.std.proofs.Common.{is_ok, if◌then◌else◌, not, T, ◌≡◌, ◌==◌, length, ℕ, Bool, true, false, cond, ◌&&◌, List, [], ◌∷◌, refl, sym, ap, subst, ◌∙◌, true≢false, Ordering, nat_cmp, is_some, is_lt, unwrap_or}
-use Rattle.std.specs.Prelude.{Result}
+use Rattle.std.proofs.Common.{not, T, ◌≡◌, ◌==◌, length, ℕ, Bool, true, false, cond, ◌&&◌, List, [], ◌∷◌, refl, sym, ap, subst, ◌∙◌, true≢false, Ordering, nat_cmp, is_some, is_lt, unwrap_or}
 use Rattle.std.specs.declared.option.Option.{Option}
 use Rattle.std.specs.declared.option.Option.TheVariants.{None, Some}
 use Rattle.std.specs.List.{filter, list_any}
@@ -159,16 +158,16 @@ module _ (q : Text → Option Row → Bool) (none : (r : Text) → q r None ≡ 
 
 -- both indices of the rows with one more
 pub put_indexed : (rows : Rows) (by_entity by_reference : Map Arrivals) → is_sorted nat_cmp rows ≡ true → IsIndexed rows by_entity by_reference → (a : ℕ) (row : Row) → row_at rows a ≡ None
-    → GivenRises row.origin a by_entity → Rises row.reference a by_reference → IsIndexed (put nat_cmp a row rows) (with_given row.origin a by_entity) (with_arrival row.reference a by_reference)
+    → GivenRises row.origin a by_entity → Rises text_cmp row.reference a by_reference → IsIndexed (put nat_cmp a row rows) (with_given row.origin a by_entity) (with_arrival text_cmp row.reference a by_reference)
 put_indexed rows by_entity by_reference rise i a row fresh rises_given rises = record {
   entities = by_origin row.origin refl rises_given;
-  references = one_put is_named (λ r. refl) rows rise a row fresh by_reference row.reference (get by_reference row.reference) (set_with row.reference a by_reference) refl i.references
+  references = one_put is_named (λ r. refl) rows rise a row fresh by_reference row.reference (get by_reference row.reference) (set_with text_cmp row.reference a by_reference) refl i.references
       (same_self text_total text_antisymmetric row.reference) (λ r d. d) refl rises;
 }
   where
     by_origin : (o : Origin) → row.origin ≡ o → GivenRises o a by_entity → (e : Text) → arrivals_of (get (with_given o a by_entity) e) ≡ given (put nat_cmp a row rows) (Entity e)
     by_origin (Provider p) is u = none_put (λ e. is_from (Entity e)) (λ e. refl) rows rise a row fresh by_entity i.entities (λ e. ap (same_origin (Entity e)) is)
-    by_origin (Entity k) is u = one_put (λ e. is_from (Entity e)) (λ e. refl) rows rise a row fresh by_entity k (get by_entity k) (set_with k a by_entity) refl i.entities
+    by_origin (Entity k) is u = one_put (λ e. is_from (Entity e)) (λ e. refl) rows rise a row fresh by_entity k (get by_entity k) (set_with text_cmp k a by_entity) refl i.entities
         (ap (same_origin (Entity k)) is ∙ same_self text_total text_antisymmetric k) (λ e d. ap (same_origin (Entity e)) is ∙ d) refl u
 
 -- both indices of the rows with a row in place of one of the same origin and reference
@@ -193,32 +192,23 @@ module _ (rows : Rows) (rise : is_sorted nat_cmp rows ≡ true) (a : ℕ) (row :
     references = λ r. i.references r ∙ named_kept r;
   }
 
--- the same, where memory may be wanted
-pub replaced_if : {A E : Type 0} (result : Result A E) (rows after : Rows) → is_sorted nat_cmp rows ≡ true → (a : ℕ) (row : Row) → IsRowAt rows a row.origin row.reference
-    → (by_entity by_reference : Map Arrivals) → IsIndexed rows by_entity by_reference → after ≡ (if is_ok result then put nat_cmp a row rows else rows) → IsIndexed after by_entity by_reference
-replaced_if result rows after rise a row x by_entity by_reference i e = subst (λ m. IsIndexed m by_entity by_reference) (sym e) (go (is_ok result))
-  where
-    go : (b : Bool) → IsIndexed (if b then put nat_cmp a row rows else rows) by_entity by_reference
-    go true = replaced_indexed rows rise a row x by_entity by_reference i
-    go false = i
-
 -- ---- what a key finds after a change
 
-find-without : {K X : Type 0} {R : K → K → Ordering} (s : IsAntisymmetric R) (k q : K) (m : List (K × X)) → find R q (without R k m) ≡ cond (not (eq_by_cmp R k q)) (find R q m) None
+pub find-without : {K X : Type 0} {R : K → K → Ordering} (s : IsAntisymmetric R) (k q : K) (m : List (K × X)) → find R q (without R k m) ≡ cond (not (eq_by_cmp R k q)) (find R q m) None
 find-without {R = R} s k q m = find-where_key R (λ x. not (eq_by_cmp R k x)) q (λ x tie. ap (λ y. not (eq_by_cmp R k y)) (sym (s q x tie))) m
 
 -- an index with a set that isn't empty has it
-pub filled : (k : Text) (set : Arrivals) (index : Map Arrivals) → (length set == 0) ≡ false → put text_cmp k set index ≡ with_set k set index
-filled k [] index e = absurd (true≢false e)
-filled k (x ∷ set) index e = refl
+pub filled : {K : Type 0} (R : K → K → Ordering) (k : K) (set : Arrivals) (index : List (K × Arrivals)) → (length set == 0) ≡ false → put R k set index ≡ with_set R k set index
+filled R k [] index e = absurd (true≢false e)
+filled R k (x ∷ set) index e = refl
 
 -- the key has what is left of its set
-with_set_here : (k : Text) (set : Arrivals) (index : Map Arrivals) → arrivals_of (get (with_set k set index) k) ≡ keys set
+with_set_here : (k : Text) (set : Arrivals) (index : Map Arrivals) → arrivals_of (get (with_set text_cmp k set index) k) ≡ keys set
 with_set_here k [] index = ap arrivals_of (find-without text_antisymmetric k k index ∙ ap (λ b. cond (not b) (get index k) None) (same_self text_total text_antisymmetric k))
 with_set_here k (e ∷ es) index = ap arrivals_of (find-put_same text_total text_antisymmetric k (e ∷ es) index)
 
 -- and each other key what it had
-with_set_there : (r k : Text) (set : Arrivals) (index : Map Arrivals) → same_text r k ≡ false → get (with_set k set index) r ≡ get index r
+pub with_set_there : (r k : Text) (set : Arrivals) (index : Map Arrivals) → same_text r k ≡ false → get (with_set text_cmp k set index) r ≡ get index r
 with_set_there r k [] index d = find-without text_antisymmetric k r index ∙ go (same_text k r) refl
   where
     go : (b : Bool) → same_text k r ≡ b → cond (not b) (get index r) None ≡ get index r
@@ -258,25 +248,25 @@ module _ (q : Text → Option Row → Bool) (none : (r : Text) → q r None ≡ 
       go b false = is_some-find nat_cmp b old ∙ (ap (among b) is ∙ among_passing q none rows r b)
 
   one_less : (index : Map Arrivals) (k : Text) → ((r : Text) → arrivals_of (get index r) ≡ passing q none rows r)
-      → ((r : Text) → same_text r k ≡ false → q r (Some row) ≡ false) → RisesLess k a index
-      → (r : Text) → arrivals_of (get (without_arrival k a index) r) ≡ passing q none less r
+      → ((r : Text) → same_text r k ≡ false → q r (Some row) ≡ false) → RisesLess text_cmp k a index
+      → (r : Text) → arrivals_of (get (without_arrival text_cmp k a index) r) ≡ passing q none less r
   one_less index k is f rises r = go (same_text r k) refl
     where
       keys_of : (v : Option Arrivals) → keys (unwrap_or v []) ≡ arrivals_of v
       keys_of None = refl
       keys_of (Some s) = refl
 
-      here : keys (set_without k a index) ≡ passing q none less k
+      here : keys (set_without text_cmp k a index) ≡ passing q none less k
       here = changed_less k (unwrap_or (get index k) []) (keys_of (get index k) ∙ is k) rises
 
-      go : (c : Bool) → same_text r k ≡ c → arrivals_of (get (without_arrival k a index) r) ≡ passing q none less r
+      go : (c : Bool) → same_text r k ≡ c → arrivals_of (get (without_arrival text_cmp k a index) r) ≡ passing q none less r
       go true s = let same = same_is text_total text_antisymmetric r k s in
-          ap (λ x. arrivals_of (get (without_arrival k a index) x)) same ∙ (with_set_here k (set_without k a index) index ∙ (here ∙ ap (passing q none less) (sym same)))
-      go false s = ap arrivals_of (with_set_there r k (set_without k a index) index s) ∙ (is r ∙ unchanged_less r (f r s))
+          ap (λ x. arrivals_of (get (without_arrival text_cmp k a index) x)) same ∙ (with_set_here k (set_without text_cmp k a index) index ∙ (here ∙ ap (passing q none less) (sym same)))
+      go false s = ap arrivals_of (with_set_there r k (set_without text_cmp k a index) index s) ∙ (is r ∙ unchanged_less r (f r s))
 
 -- both indices of the rows with one less
 less_indexed_row : (rows : Rows) (by_entity by_reference : Map Arrivals) → is_sorted nat_cmp rows ≡ true → IsIndexed rows by_entity by_reference → (a : ℕ) (row : Row) → row_at rows a ≡ Some row
-    → GivenRisesLess row.origin a by_entity → RisesLess row.reference a by_reference → IsIndexed (without nat_cmp a rows) (without_given row.origin a by_entity) (without_arrival row.reference a by_reference)
+    → GivenRisesLess row.origin a by_entity → RisesLess text_cmp row.reference a by_reference → IsIndexed (without nat_cmp a rows) (without_given row.origin a by_entity) (without_arrival text_cmp row.reference a by_reference)
 less_indexed_row rows by_entity by_reference rise i a row at rises_given rises = record {
   entities = by_origin row.origin refl rises_given;
   references = one_less is_named (λ r. refl) rows rise a row at by_reference row.reference i.references (λ r d. d) rises;
@@ -287,11 +277,11 @@ less_indexed_row rows by_entity by_reference rise i a row at rises_given rises =
     by_origin (Entity k) is u = one_less (λ e. is_from (Entity e)) (λ e. refl) rows rise a row at by_entity k i.entities (λ e d. ap (same_origin (Entity e)) is ∙ d) u
 
 pub less_indexed : (rows : Rows) (by_entity by_reference : Map Arrivals) → is_sorted nat_cmp rows ≡ true → IsIndexed rows by_entity by_reference → (a : ℕ) (o : Origin) (r : Text) → IsRowAt rows a o r
-    → GivenRisesLess o a by_entity → RisesLess r a by_reference → IsIndexed (without nat_cmp a rows) (without_given o a by_entity) (without_arrival r a by_reference)
+    → GivenRisesLess o a by_entity → RisesLess text_cmp r a by_reference → IsIndexed (without nat_cmp a rows) (without_given o a by_entity) (without_arrival text_cmp r a by_reference)
 less_indexed rows by_entity by_reference rise i a o r x rises_given rises =
-    subst (λ q. IsIndexed (without nat_cmp a rows) (without_given q a by_entity) (without_arrival r a by_reference)) x.from
-    (subst (λ q. IsIndexed (without nat_cmp a rows) (without_given x.row.origin a by_entity) (without_arrival q a by_reference)) x.names
-    (less_indexed_row rows by_entity by_reference rise i a x.row x.at (subst (λ q. GivenRisesLess q a by_entity) (sym x.from) rises_given) (subst (λ q. RisesLess q a by_reference) (sym x.names) rises)))
+    subst (λ q. IsIndexed (without nat_cmp a rows) (without_given q a by_entity) (without_arrival text_cmp r a by_reference)) x.from
+    (subst (λ q. IsIndexed (without nat_cmp a rows) (without_given x.row.origin a by_entity) (without_arrival text_cmp q a by_reference)) x.names
+    (less_indexed_row rows by_entity by_reference rise i a x.row x.at (subst (λ q. GivenRisesLess q a by_entity) (sym x.from) rises_given) (subst (λ q. RisesLess text_cmp q a by_reference) (sym x.names) rises)))
 
 pub same_indexed : (rows rows' : Rows) (a a' b b' : Map Arrivals) → rows' ≡ rows → a' ≡ a → b' ≡ b → IsIndexed rows a b → IsIndexed rows' a' b'
 same_indexed rows rows' a a' b b' e f g h = subst (λ x. IsIndexed x a' b') (sym e) (subst (λ x. IsIndexed rows x b') (sym f) (subst (λ x. IsIndexed rows a x) (sym g) h))

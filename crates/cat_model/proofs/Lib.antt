@@ -1,3 +1,5 @@
 pub mod Indexed
 pub mod Dues
 pub mod Soonest
+pub mod DueNow
+pub mod Named

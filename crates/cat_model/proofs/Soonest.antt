@@ -1,5 +1,5 @@
 -- The first of the moments whose record may be taken is that of the entry which is soonest.
-use Rattle.std.proofs.Common.{◌≡◌, ℕ, ◌<◌, ◌≤◌, ◌⊎◌, inl, inr, arith, Bool, true, false, cond, ◌&&◌, nat_le, nat_lt, List, [], ◌∷◌, refl, sym, ap, subst, ◌∙◌, true≢false, Ordering, Less, Equal, Greater, nat_cmp, is_some}
+use Rattle.std.proofs.Common.{◌≡◌, ℕ, ◌<◌, ◌≤◌, ◌⊎◌, inl, inr, arith, Bool, true, false, cond, ◌&&◌, nat_le, nat_lt, [], ◌∷◌, refl, sym, ap, subst, ◌∙◌, true≢false, Less, is_some}
 use Rattle.std.proofs.lemmas.Bool.Decides.{nat_tests}
 use Rattle.std.specs.Prelude.{option_map}
 use Rattle.std.specs.declared.option.Option.{Option}
@@ -19,7 +19,7 @@ use Rattle.cat_model.specs.declared.types.Record.{Record}
 lt_not : (x y : ℕ) → x < y → nat_le y x ≡ false
 lt_not x y h = grind (arith, nat_tests)
 
-lt_yes : (x y : ℕ) → nat_lt x y ≡ true → x < y
+pub lt_yes : (x y : ℕ) → nat_lt x y ≡ true → x < y
 lt_yes x y h = grind (arith, nat_tests)
 
 -- what is due after the present moment can't be taken
@@ -117,18 +117,18 @@ module _ (now : ℕ) where
     abbrev AreOf : Dues → Type 0
     AreOf ds = (t : ℕ) (r : Text) → is_some (find due_cmp (t, r) ds) ≡ true → (x : Record) × ((get es r ≡ Some x) × (x.due ≡ t))
 
-    also : (d : (ℕ × Text) × Unit {0}) (ds : Dues) (t : ℕ) (r : Text) → is_some (find due_cmp (t, r) ds) ≡ true → is_some (find due_cmp (t, r) (d ∷ ds)) ≡ true
+    pub also : (d : (ℕ × Text) × Unit {0}) (ds : Dues) (t : ℕ) (r : Text) → is_some (find due_cmp (t, r) ds) ≡ true → is_some (find due_cmp (t, r) (d ∷ ds)) ≡ true
     also d ds t r h = go (eq_by_cmp due_cmp (t, r) d.0)
       where
         go : (c : Bool) → is_some (cond c (Some d.1) (find due_cmp (t, r) ds)) ≡ true
         go true = refl
         go false = h
 
-    at_hand : (d : (ℕ × Text) × Unit {0}) (ds : Dues) → is_some (find due_cmp (d.0.0, d.0.1) (d ∷ ds)) ≡ true
+    pub at_hand : (d : (ℕ × Text) × Unit {0}) (ds : Dues) → is_some (find due_cmp (d.0.0, d.0.1) (d ∷ ds)) ≡ true
     at_hand d ds = ap (λ b. is_some (cond b (Some d.1) (find due_cmp (d.0.0, d.0.1) ds))) (same_self ticket_total ticket_antisymmetric d.0)
 
     -- a moment is the one at hand, or above it
-    above : (d : (ℕ × Text) × Unit {0}) (ds : Dues) (u : ℕ) (q : Text) → is_sorted due_cmp (d ∷ ds) ≡ true → is_some (find due_cmp (u, q) (d ∷ ds)) ≡ true
+    pub above : (d : (ℕ × Text) × Unit {0}) (ds : Dues) (u : ℕ) (q : Text) → is_sorted due_cmp (d ∷ ds) ≡ true → is_some (find due_cmp (u, q) (d ∷ ds)) ≡ true
         → (((u, q) ≡ d.0) ⊎ (is_some (find due_cmp (u, q) ds) ≡ true)) × (is_gt (due_cmp d.0 (u, q)) ≡ false)
     above d ds u q h f = go (eq_by_cmp due_cmp (u, q) d.0) refl f
       where

@@ -16,6 +16,7 @@ pub use Rattle.cat_model.specs.declared.types.ProviderInputs.{ProviderInputs}
 pub use Rattle.cat_types.specs.declared.work.Content.{Content}
 pub use Rattle.cat_types.specs.declared.work.Work.{Work}
 use Rattle.cat_types.specs.Relation.{relation_cmp}
+use Rattle.cat_target.specs.Targets.{read_names}
 pub use Rattle.cat_model.specs.declared.types.Origin.{Origin}
 pub use Rattle.cat_model.specs.declared.types.Row.{Row}
 pub use Rattle.cat_model.specs.Rows.{Rows, row_at}
@@ -80,6 +81,8 @@ pub record Rules : Type 0 where
   pub same_parts-self : (x : Parts) → same_parts x x ≡ true
   pub offers_on_shelf : (shelf : Shelf) (tree : Tree) (output : Output) (issues : Issues) → result (work_with contents shelf tree) ≡ Good output issues
       → (r : Ref) (x : Offered) → get output.offers r ≡ Some x → list_any (same_text r) (shelf_refs shelf) ≡ true
+  -- and that a change of the shelf needs, which asks the readers of a name alone
+  pub reads : (tree : Tree) (m n : Shelf) → ((t : Text) → list_any (same_text t) (read_names tree) ≡ true → get m t ≡ get n t) → contents tree m ≡ contents tree n
 
 -- ---- the state
 

@@ -1,11 +1,12 @@
 -- Records by reference, and by the moment from which they are due.
 use Rattle.std.specs.Prelude.{◌≡◌, ℕ, Bool, true, false, cond, ◌&&◌, nat_le, nat_lt, is_some, unwrap_or, List, [], ◌∷◌, length}
+use Rattle.std.specs.List.{filter}
 use Rattle.std.specs.Ordering.{eq_by_cmp, nat_cmp}
 use Rattle.std.specs.declared.cmp.Ordering.{Ordering}
 use Rattle.std.specs.declared.option.Option.{Option}
 use Rattle.std.specs.declared.option.Option.TheVariants.{None, Some}
 use Rattle.cat_table.specs.Pairs.{pair_cmp}
-use Rattle.cat_table.specs.Table.{Map, Text, find, get, put, text_cmp}
+use Rattle.cat_table.specs.Table.{Map, Text, find, get, keys, put, text_cmp}
 use Rattle.cat_model.specs.declared.types.Lease.{Lease}
 use Rattle.cat_model.specs.declared.types.Record.{Record}
 
@@ -14,10 +15,19 @@ abbrev pub is_free : ℕ → Option Lease → Bool
 is_free now None = true
 is_free now (Some lease) = nat_le lease.expires now
 
+-- whether a record is due at the moment now
+abbrev pub is_due : ℕ → Option Record → Bool
+is_due now None = false
+is_due now (Some x) = nat_le x.due now
+
 -- whether a record is due and has no live lease
 abbrev pub may_take : ℕ → Option Record → Bool
 may_take now None = false
 may_take now (Some x) = nat_le x.due now && is_free now x.lease
+
+-- the references of the records that are due, in order
+abbrev pub refs_due : ℕ → Map Record → List Text
+refs_due now records = filter (λ r. is_due now (get records r)) (keys records)
 
 -- the record of a reference, if there is one, gets this lease, and a due moment if one is given
 abbrev pub rerecorded_at : Text → Option ℕ → Option Lease → Option Record → Map Record → Map Record
@@ -60,3 +70,8 @@ pub record AreDues (records : Map Record) (dues : Dues) : Type 0 where
 abbrev pub first_taken : ℕ → Map Record → Dues → Option Text
 first_taken now records [] = None
 first_taken now records (d ∷ ds) = cond (nat_lt now d.0.0) None (cond (may_take now (get records d.0.1)) (Some d.0.1) (first_taken now records ds))
+
+-- in order of the moments, up to the present one, the references
+abbrev pub refs_until : ℕ → Dues → List Text
+refs_until now [] = []
+refs_until now (d ∷ ds) = cond (nat_lt now d.0.0) [] (d.0.1 ∷ refs_until now ds)

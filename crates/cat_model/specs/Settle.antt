@@ -3,20 +3,15 @@ use Rattle.std.specs.Prelude.{◌≡◌, ⊤, ℕ, zero, suc, ◌<◌, Bool, tru
 use Rattle.std.specs.declared.option.Option.{Option}
 use Rattle.std.specs.declared.option.Option.TheVariants.{None, Some}
 use Rattle.std.specs.Option.{option_and_then}
-use Rattle.std.specs.List.{filter}
 pub use Rattle.cat_model.specs.declared.types.Progress.{Progress}
 pub use Rattle.cat_model.specs.declared.types.Stop.{Stop}
 use Rattle.cat_model.specs.declared.types.Stop.TheVariants.{Refused, Limit}
 use Rattle.cat_table.specs.Table.{Text, text_cmp, Map, get, keys, tabulate}
 use Rattle.cat_model.specs.Catalogue.{Ref, Parts, Work, Rules, Row, Lease, Record, State, holding, work, parts}
+pub use Rattle.cat_model.specs.Dues.{is_due, refs_due}
 use Rattle.cat_model.specs.declared.types.Origin.TheVariants.{Provider, Entity}
 use Rattle.cat_model.specs.Step.{Settings, Order, StitchOrder, Event, change, Fault, refusal, step, run}
 use Rattle.cat_model.specs.Step.Event.{TakeAt, Finish, PutStitch}
-
--- whether a record is due at the moment now
-abbrev pub is_due : ℕ → Option Record → Bool
-is_due now None = false
-is_due now (Some x) = nat_le x.due now
 
 -- the order of a lease and a work
 abbrev pub order_with : Ref → Option Lease → Option Work → Option Order
@@ -30,7 +25,7 @@ order rules m r = order_with r (option_and_then (λ x. x.lease) (get m.records r
 
 -- the records that are due, in order of reference
 abbrev pub due_refs : ℕ → State → List Ref
-due_refs now m = filter (λ r. is_due now (get m.records r)) (keys m.records)
+due_refs now m = refs_due now m.records
 
 -- the order of a mark and the parts of its reference
 abbrev pub stitch_order : Rules → State → Ref → Option ℕ → Option Parts → Option StitchOrder

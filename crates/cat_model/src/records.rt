@@ -5,7 +5,7 @@ ghost use Rattle.cat_owned.specs.BoxedLeft.{boxed_left};
 ghost use Rattle.cat_table.specs.Rows.{without};
 ghost use Rattle.cat_table.specs.Table.{find, get, keys, put, text_cmp};
 ghost use Rattle.cat_types.specs.Amended.{amended};
-ghost use Rattle.cat_model.specs.Dues.{due_cmp, first_taken, is_free, may_take, rerecorded_at, soonest};
+ghost use Rattle.cat_model.specs.Dues.{due_cmp, first_taken, is_free, may_take, refs_due, refs_until, rerecorded_at, soonest};
 ghost use Rattle.std.specs.declared.option.Option.TheVariants.{Some};
 
 use crate::types::{Lease, Record};
@@ -15,6 +15,7 @@ use cat_ref::reference::Ref;
 use cat_table::listing::{Copied, Listing};
 use cat_table::pair::Pair;
 use cat_table::tree::MOST;
+use cat_types::sorted::in_order;
 use std::alloc::{AllocError, Global};
 use std::marker::Model;
 
@@ -162,6 +163,30 @@ fn first_taken<'a>(now: u64, records: &Owned<Ref, Record>, dues: &'a Dues) -> Op
     None
 }
 
+// The references of the moments up to the present one, in order of the moments.
+fn refs_until(alloc: Global, now: u64, dues: &Dues) -> Result<Vec<Ref>, AllocError>
+    ensures { IfOk result (λ refs. refs.items ≡ refs_until now dues.now) }
+{
+    let mut refs = Vec::new(alloc);
+    for ((due, reference), _) in dues.iter() {
+        if now < *due {
+            return Ok(refs);
+        }
+        refs.push(reference.duplicate(alloc)?)?;
+    }
+    Ok(refs)
+}
+
+// Whether the first of the moments is after the present one, or there is none.
+fn is_none_until(now: u64, dues: &Dues) -> bool
+    ensures { result ≡ (length (refs_until now dues.now) == 0) }
+{
+    match dues.at(0) {
+        None => true,
+        Some(((due, _), _)) => now < *due,
+    }
+}
+
 impl Records {
     /// No records. Takes no memory.
     pub fn new() -> Records
@@ -236,6 +261,29 @@ impl Records {
         self.entries.in_order();
         self.dues.in_order();
         first_taken(now, &self.entries, &self.dues)
+    }
+}
+
+impl Records {
+    #[tactic(auto, using(crate::proofs::DueNow::due_is))]
+    /// The references of the records that are due at this moment, in order. Of the records none but these is looked at.
+    pub fn due(&self, alloc: Global, now: u64) -> Result<Listing<Ref>, AllocError>
+        ensures { IfOk result (λ l. l ≡ refs_due now self.now) }
+    {
+        self.entries.in_order();
+        self.dues.in_order();
+        let refs = refs_until(alloc, now, &self.dues)?;
+        Ok(Listing::from_vec(in_order(refs)))
+    }
+
+    #[tactic(auto, using(crate::proofs::DueNow::none_is))]
+    /// Whether no record is due at this moment. It looks at the one that is due first alone.
+    pub fn is_none_due(&self, now: u64) -> bool
+        ensures { result ≡ (length (refs_due now self.now) == 0) }
+    {
+        self.entries.in_order();
+        self.dues.in_order();
+        is_none_until(now, &self.dues)
     }
 }
 

@@ -1,4 +1,4 @@
-//! Rows of offers that are found by arrival, by the entity that gave them and by their reference.
+//! Rows of offers that are found by arrival, by the entity that gave them, by their reference, and by what they read of the shelf.
 ghost use Rattle.std.specs.Prelude.{◌≡◌, [], IfOk, IsTrue, None, if◌then◌else◌, is_ok, length, option_map};
 ghost use Rattle.std.specs.FinMap.Entries.{is_sorted};
 ghost use Rattle.std.specs.Ordering.{nat_cmp};
@@ -6,32 +6,36 @@ ghost use Rattle.std.specs.Option.{unwrap_or};
 ghost use Rattle.cat_table.specs.Left.{items_left};
 ghost use Rattle.cat_table.specs.Places.{first_from, from};
 ghost use Rattle.cat_table.specs.Rows.{without};
-ghost use Rattle.cat_table.specs.Table.{find, keys, put, text_cmp};
+ghost use Rattle.cat_table.specs.Table.{find, keys, put};
 ghost use Rattle.cat_model.specs.declared.types.Origin.TheVariants.{Entity};
-ghost use Rattle.cat_model.specs.Rows.{GivenRises, GivenRisesLess, IsRowAt, Rises, RisesLess, given, named, row_at, set_with, set_without, with_arrival, with_given, with_set, without_arrival, without_given};
+ghost use Rattle.cat_model.specs.Rows.{GivenRises, GivenRisesLess, IsRowAt, Rises, RisesLess, given, named, names_of, reading, row_at, set_with, set_without, with_arrival, with_given, with_names, with_read, with_set, without_arrival, without_given, without_names};
 
 use crate::types::{Origin, Row};
 use cat_ref::reference::Ref;
+use cat_table::key::Key;
 use cat_table::listing::{Copied, Listing};
 use cat_table::map::Map;
 use cat_table::tree::Items;
+use cat_target::target::read_names;
+use cat_tree::text::Text;
 use std::alloc::{AllocError, Global};
 use std::marker::Model;
 
 // Sets of arrivals by key.
-type Index = Map<Ref, Map<u64, ()>>;
+type Index<K> = Map<K, Map<u64, ()>>;
 
-/// Rows by arrival, and their arrivals by entity and by reference. Contracts see the rows, in order of arrival. A copy shares
-/// the rows with what it was made of, and takes no memory.
+/// Rows by arrival, and their arrivals by entity, by reference, and by the shelf names that their descriptors may read. Contracts
+/// see the rows, in order of arrival. A copy shares the rows with what it was made of, and takes no memory.
 #[derive(Drop)]
 pub struct IndexedRows {
     rows: Map<u64, Row>,
-    by_entity: Index,
-    by_reference: Index,
+    by_entity: Index<Ref>,
+    by_reference: Index<Ref>,
+    by_name: Index<Text>,
 }
 
 impl Model for IndexedRows {
-    ghost use Rattle.cat_model.specs.Rows.{IsIndexed, Rows};
+    ghost use Rattle.cat_model.specs.Rows.{AreRead, IsIndexed, Rows};
     ghost use Rattle.cat_model.specs.contracts.types.Row.{the_row};
     ghost use Rattle.std.specs.Coded.{coded_list, coded×, coded_ℕ};
 
@@ -41,12 +45,12 @@ impl Model for IndexedRows {
 
     ghost view = { λ a. a.rows };
 
-    ghost invariant = { λ a. IsIndexed a.rows a.by_entity a.by_reference };
+    ghost invariant = { λ a. IsIndexed a.rows a.by_entity a.by_reference × AreRead a.rows a.by_name };
 }
 
 // The set of a key, if there is one.
-fn set_of(index: &Index, key: &Ref) -> Result<Map<u64, ()>, AllocError>
-    ensures { IfOk result (λ s. s ≡ unwrap_or (find text_cmp key.now index.now) []) }
+fn set_of<K: Key>(index: &Index<K>, key: &K) -> Result<Map<u64, ()>, AllocError>
+    ensures { IfOk result (λ s. s ≡ unwrap_or (find K.order key.now index.now) []) }
 {
     match index.get(key) {
         Some(set) => set.share(),
@@ -55,14 +59,14 @@ fn set_of(index: &Index, key: &Ref) -> Result<Map<u64, ()>, AllocError>
 }
 
 // The set of a key, with one arrival more.
-fn set_with(
+fn set_with<K: Key>(
     alloc: Global,
-    index: &Index,
-    key: &Ref,
+    index: &Index<K>,
+    key: &K,
     arrival: u64,
 ) -> Result<Map<u64, ()>, AllocError>
-    ensures set { IfOk result (λ s. s ≡ set_with key.now arrival index.now) }
-    ensures order { IfOk result (λ s. Rises key.now arrival index.now) }
+    ensures set { IfOk result (λ s. s ≡ set_with K.order key.now arrival index.now) }
+    ensures order { IfOk result (λ s. Rises K.order key.now arrival index.now) }
 {
     let mut set = set_of(index, key)?;
     set.put(alloc, arrival, ())?;
@@ -71,9 +75,14 @@ fn set_with(
 }
 
 // An index, with one arrival more under a key.
-fn with_arrival(alloc: Global, index: &Index, key: &Ref, arrival: u64) -> Result<Index, AllocError>
-    ensures index { IfOk result (λ x. x ≡ with_arrival key.now arrival index.now) }
-    ensures order { IfOk result (λ x. Rises key.now arrival index.now) }
+fn with_arrival<K: Key + Copied + Drop>(
+    alloc: Global,
+    index: &Index<K>,
+    key: &K,
+    arrival: u64,
+) -> Result<Index<K>, AllocError>
+    ensures index { IfOk result (λ x. x ≡ with_arrival K.order key.now arrival index.now) }
+    ensures order { IfOk result (λ x. Rises K.order key.now arrival index.now) }
 {
     let set = set_with(alloc, index, key, arrival)?;
     let mut next = index.share()?;
@@ -83,10 +92,10 @@ fn with_arrival(alloc: Global, index: &Index, key: &Ref, arrival: u64) -> Result
 
 fn with_given(
     alloc: Global,
-    index: &Index,
+    index: &Index<Ref>,
     origin: &Origin,
     arrival: u64,
-) -> Result<Index, AllocError>
+) -> Result<Index<Ref>, AllocError>
     ensures index { IfOk result (λ x. x ≡ with_given origin.now arrival index.now) }
     ensures order { IfOk result (λ x. GivenRises origin.now arrival index.now) }
 {
@@ -97,14 +106,14 @@ fn with_given(
 }
 
 // The set of a key, with one arrival less.
-fn set_without(
+fn set_without<K: Key>(
     alloc: Global,
-    index: &Index,
-    key: &Ref,
+    index: &Index<K>,
+    key: &K,
     arrival: u64,
 ) -> Result<Map<u64, ()>, AllocError>
-    ensures set { IfOk result (λ s. s ≡ set_without key.now arrival index.now) }
-    ensures order { IfOk result (λ s. RisesLess key.now arrival index.now) }
+    ensures set { IfOk result (λ s. s ≡ set_without K.order key.now arrival index.now) }
+    ensures order { IfOk result (λ s. RisesLess K.order key.now arrival index.now) }
 {
     let mut set = set_of(index, key)?;
     set.remove(alloc, &arrival)?;
@@ -113,8 +122,13 @@ fn set_without(
 }
 
 // An index with this set under a key; where it is empty, with none.
-fn with_set(alloc: Global, index: &Index, key: &Ref, set: Map<u64, ()>) -> Result<Index, AllocError>
-    ensures { IfOk result (λ x. x ≡ with_set key.now set index.now) }
+fn with_set<K: Key + Copied + Drop>(
+    alloc: Global,
+    index: &Index<K>,
+    key: &K,
+    set: Map<u64, ()>,
+) -> Result<Index<K>, AllocError>
+    ensures { IfOk result (λ x. x ≡ with_set K.order key.now set index.now) }
 {
     let mut next = index.share()?;
     if set.is_empty() {
@@ -126,14 +140,14 @@ fn with_set(alloc: Global, index: &Index, key: &Ref, set: Map<u64, ()>) -> Resul
 }
 
 // An index, with one arrival less under a key.
-fn without_arrival(
+fn without_arrival<K: Key + Copied + Drop>(
     alloc: Global,
-    index: &Index,
-    key: &Ref,
+    index: &Index<K>,
+    key: &K,
     arrival: u64,
-) -> Result<Index, AllocError>
-    ensures index { IfOk result (λ x. x ≡ without_arrival key.now arrival index.now) }
-    ensures order { IfOk result (λ x. RisesLess key.now arrival index.now) }
+) -> Result<Index<K>, AllocError>
+    ensures index { IfOk result (λ x. x ≡ without_arrival K.order key.now arrival index.now) }
+    ensures order { IfOk result (λ x. RisesLess K.order key.now arrival index.now) }
 {
     let set = set_without(alloc, index, key, arrival)?;
     with_set(alloc, index, key, set)
@@ -141,10 +155,10 @@ fn without_arrival(
 
 fn without_given(
     alloc: Global,
-    index: &Index,
+    index: &Index<Ref>,
     origin: &Origin,
     arrival: u64,
-) -> Result<Index, AllocError>
+) -> Result<Index<Ref>, AllocError>
     ensures index { IfOk result (λ x. x ≡ without_given origin.now arrival index.now) }
     ensures order { IfOk result (λ x. GivenRisesLess origin.now arrival index.now) }
 {
@@ -152,6 +166,76 @@ fn without_given(
         Origin::Provider(_) => index.share(),
         Origin::Entity(e) => without_arrival(alloc, index, e, arrival),
     }
+}
+
+// The shelf names that the descriptor of a row may read, if there is one.
+fn names_of(alloc: Global, row: Option<&Row>) -> Result<Vec<Text>, AllocError>
+    ensures { IfOk result (λ names. names.items ≡ names_of (option_map (λ x. x.now) row.entry)) }
+{
+    match row {
+        None => Ok(Vec::new(alloc)),
+        Some(row) => read_names(alloc, row.offered.tree.tree()),
+    }
+}
+
+// An index, with one arrival more under each of these names.
+fn with_names(
+    alloc: Global,
+    index: &Index<Text>,
+    names: &[Text],
+    arrival: u64,
+) -> Result<Index<Text>, AllocError>
+    ensures { IfOk result (λ x. x ≡ with_names names.now arrival index.now) }
+{
+    let mut next = index.share()?;
+    for name in names {
+        next = with_arrival(alloc, &next, name, arrival)?;
+    }
+    Ok(next)
+}
+
+// An index, with one arrival less under each of these names.
+fn without_names(
+    alloc: Global,
+    index: &Index<Text>,
+    names: &[Text],
+    arrival: u64,
+) -> Result<Index<Text>, AllocError>
+    ensures { IfOk result (λ x. x ≡ without_names names.now arrival index.now) }
+{
+    let mut next = index.share()?;
+    for name in names {
+        next = without_arrival(alloc, &next, name, arrival)?;
+    }
+    Ok(next)
+}
+
+// An index, without the arrival under the names of the row that it has.
+fn unread(
+    alloc: Global,
+    index: &Index<Text>,
+    rows: &Map<u64, Row>,
+    arrival: u64,
+) -> Result<Index<Text>, AllocError>
+    ensures { IfOk result (λ x. x ≡ without_names (names_of (row_at rows.now arrival)) arrival index.now) }
+{
+    let names = names_of(alloc, rows.get(&arrival))?;
+    without_names(alloc, index, names.as_slice(), arrival)
+}
+
+// An index in which the arrival stands under the names of this row, and no longer under those of the row that it had.
+fn with_read(
+    alloc: Global,
+    index: &Index<Text>,
+    rows: &Map<u64, Row>,
+    arrival: u64,
+    row: &Row,
+) -> Result<Index<Text>, AllocError>
+    ensures { IfOk result (λ x. x ≡ with_read rows.now arrival row.now index.now) }
+{
+    let rest = unread(alloc, index, rows, arrival)?;
+    let names = names_of(alloc, Some(row))?;
+    with_names(alloc, &rest, names.as_slice(), arrival)
 }
 
 impl Copied for IndexedRows {
@@ -169,6 +253,7 @@ impl IndexedRows {
             rows: Map::new(),
             by_entity: Map::new(),
             by_reference: Map::new(),
+            by_name: Map::new(),
         }
     }
 
@@ -180,10 +265,10 @@ impl IndexedRows {
             rows: self.rows.share()?,
             by_entity: self.by_entity.share()?,
             by_reference: self.by_reference.share()?,
+            by_name: self.by_name.share()?,
         })
     }
 
-    #[tactic(auto, using(crate::proofs::Indexed::put_indexed))]
     /// Puts a new row. Where memory is wanted, all is as before.
     pub fn put(&mut self, alloc: Global, arrival: u64, row: Row) -> Result<(), AllocError>
         requires { row_at self.now arrival ≡ None }
@@ -192,9 +277,11 @@ impl IndexedRows {
         self.rows.in_order();
         let by_entity = with_given(alloc, &self.by_entity, &row.origin, arrival)?;
         let by_reference = with_arrival(alloc, &self.by_reference, &row.reference, arrival)?;
+        let by_name = with_read(alloc, &self.by_name, &self.rows, arrival, &row)?;
         self.rows.put(alloc, arrival, row)?;
         self.by_entity = by_entity;
         self.by_reference = by_reference;
+        self.by_name = by_name;
         Ok(())
     }
 
@@ -204,10 +291,12 @@ impl IndexedRows {
         ensures { self.new ≡ (if is_ok result then put nat_cmp arrival row self.old else self.old) }
     {
         self.rows.in_order();
-        self.rows.put(alloc, arrival, row)
+        let by_name = with_read(alloc, &self.by_name, &self.rows, arrival, &row)?;
+        self.rows.put(alloc, arrival, row)?;
+        self.by_name = by_name;
+        Ok(())
     }
 
-    #[tactic(auto, using(crate::proofs::Indexed::less_indexed))]
     /// Removes a row. Where memory is wanted, all is as before.
     pub fn remove(
         &mut self,
@@ -222,9 +311,11 @@ impl IndexedRows {
         self.rows.in_order();
         let by_entity = without_given(alloc, &self.by_entity, origin, arrival)?;
         let by_reference = without_arrival(alloc, &self.by_reference, reference, arrival)?;
+        let by_name = unread(alloc, &self.by_name, &self.rows, arrival)?;
         self.rows.remove(alloc, &arrival)?;
         self.by_entity = by_entity;
         self.by_reference = by_reference;
+        self.by_name = by_name;
         Ok(())
     }
 
@@ -288,5 +379,15 @@ impl IndexedRows {
             Some(arrivals) => arrivals.keys(alloc),
             None => Ok(Listing::new(alloc)),
         }
+    }
+
+    /// The arrivals of the rows whose descriptors may read a shelf name, in order.
+    pub fn reading(&self, alloc: Global, name: &Text) -> Result<Listing<u64>, AllocError>
+        ensures { IfOk result (λ l. l ≡ reading self.now name.now) }
+    {
+        self.rows.in_order();
+        let arrivals = set_of(&self.by_name, name)?;
+        arrivals.in_order();
+        arrivals.keys(alloc)
     }
 }

@@ -1,4 +1,6 @@
 //! What the catalogue is made of, and what it answers. In contracts each of these is the record or the list of its values.
+ghost use Rattle.std.specs.Prelude.{◌≡◌, IfOk};
+
 use crate::records::Records;
 use crate::rows::IndexedRows;
 use cat_items::items::OfferedItems;
@@ -7,11 +9,11 @@ use cat_ref::reference::Ref;
 use cat_table::listing::{Copied, Listing};
 use cat_table::map::Map;
 use cat_tree::text::Text;
+use cat_types::entries::Entries;
 use cat_types::input::Offered;
 use cat_types::issue::Issue;
 use cat_types::node::Node;
 use cat_types::parts::Parts;
-use cat_types::table::Table;
 use cat_types::work::{Output, Work};
 use std::alloc::{AllocError, Global};
 use std::fmt;
@@ -81,8 +83,8 @@ pub struct Orphan {
 /// A catalogue. Rows stand by arrival, all else by provider, name or reference; the last four are the next numbers to be drawn.
 #[derive(Drop)]
 pub struct State {
-    pub providers: Table<Text, ProviderInputs>,
-    pub shelf: Table<Text, Text>,
+    pub providers: Map<Text, ProviderInputs>,
+    pub shelf: Map<Text, Text>,
     pub rows: IndexedRows,
     pub holders: Map<Ref, u64>,
     pub records: Records,
@@ -117,7 +119,7 @@ pub struct Settings {
 pub struct Given {
     pub serial: u64,
     pub full: bool,
-    pub items: Table<Ref, Offered>,
+    pub items: Entries<Ref, Offered>,
     pub removed: Listing<Ref>,
 }
 
@@ -287,16 +289,44 @@ impl Copied for Orphan {
     }
 }
 
-impl Copied for State {
-    fn duplicate(&self, alloc: Global) -> Result<State, AllocError> {
-        let providers = self.providers.duplicate(alloc)?;
-        let shelf = self.shelf.duplicate(alloc)?;
+impl State {
+    // The providers, the shelf, the rows and the holders, shared.
+    fn share_inputs(
+        &self,
+    ) -> Result<
+        (
+            Map<Text, ProviderInputs>,
+            Map<Text, Text>,
+            IndexedRows,
+            Map<Ref, u64>,
+        ),
+        AllocError,
+    >
+        ensures { IfOk result (λ r. r ≡ (self.now.providers, self.now.shelf, self.now.rows, self.now.holders)) }
+    {
+        let providers = self.providers.share()?;
+        let shelf = self.shelf.share()?;
         let rows = self.rows.share()?;
         let holders = self.holders.share()?;
-        let records = self.records.duplicate(alloc)?;
+        Ok((providers, shelf, rows, holders))
+    }
+
+    // The orphans, the marks and the documents, shared.
+    fn share_outcomes(&self) -> Result<(Map<Ref, Orphan>, Marks, Map<Ref, Node>), AllocError>
+        ensures { IfOk result (λ r. r ≡ (self.now.orphans, self.now.marks, self.now.documents)) }
+    {
         let orphans = self.orphans.share()?;
         let marks = self.marks.share()?;
         let documents = self.documents.share()?;
+        Ok((orphans, marks, documents))
+    }
+}
+
+impl Copied for State {
+    fn duplicate(&self, alloc: Global) -> Result<State, AllocError> {
+        let (providers, shelf, rows, holders) = self.share_inputs()?;
+        let (orphans, marks, documents) = self.share_outcomes()?;
+        let records = self.records.duplicate(alloc)?;
         Ok(State {
             providers,
             shelf,

@@ -15,7 +15,7 @@ use Rattle.cat_table.proofs.Tables.{text_total, text_antisymmetric, same_is}
 use Rattle.cat_target.specs.Base.{Base}
 use Rattle.cat_target.specs.Location.{base_of, type_of, is_optional, target_texts}
 use Rattle.cat_target.specs.Resolve.{name_of}
-use Rattle.cat_target.specs.Targets.{names_from, as_targets, typed_targets, targets_of, is_on_shelf}
+use Rattle.cat_target.specs.Targets.{names_from, as_targets, typed_targets, targets_of, is_on_shelf, unless_faulty}
 use Rattle.cat_target.specs.declared.target.Target.{Target}
 use Rattle.cat_target.specs.declared.target.TargetFault.{TargetFault}
 use Rattle.cat_target.specs.declared.target.TargetFault.TheVariants.{TooMany}
@@ -24,7 +24,7 @@ use Rattle.cat_inputs.specs.Shelf.{shelf_reading}
 use Rattle.cat_inputs.specs.declared.fault.ShelfFault.{ShelfFault}
 use Rattle.cat_inputs.specs.declared.shelf.Listed.{Listed}
 use Rattle.cat_process.specs.Offers.{location_key, origin_key, origin_of, located, with_annotations, annotated_in, annotated_at, annotated, offer, listed_offers, body_offers, content_offers, all_offers, is_seen, firsts}
-use Rattle.cat_process.specs.Process.{entity_targets, unless_faulty, is_location, wanted_of, content_from, contents_of}
+use Rattle.cat_process.specs.Process.{entity_targets, is_location, wanted_of, content_from, contents_of}
 use Rattle.cat_offers.specs.Trees.{IsWithin}
 use Rattle.cat_offers.specs.Forms.{IsOffer}
 use Rattle.cat_offers.proofs.Edits.{child_within, within-with_key, within-words, within-empty, child_of-put}

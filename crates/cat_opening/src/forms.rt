@@ -25,10 +25,10 @@ fn is_numbered(inputs: &ProviderInputs) -> bool
     inputs.items.len() == 0 || 1 <= inputs.serial && inputs.serial <= MOST_SERIAL
 }
 
-fn are_sources(providers: &[(Text, ProviderInputs)]) -> bool
+fn are_sources(providers: &Map<Text, ProviderInputs>) -> bool
     ensures { result ≡ list_all spec.is_source providers.now }
 {
-    for (_, inputs) in providers {
+    for (_, inputs) in providers.iter() {
         if !is_numbered(inputs) {
             return false;
         }
@@ -107,7 +107,7 @@ fn are_left(alloc: Global, orphans: &Map<Ref, Orphan>) -> Result<bool, AllocErro
 pub fn has_forms(alloc: Global, m: &State) -> Result<bool, AllocError>
     ensures { IfOk result (λ b. b ≡ spec.has_forms m.now) }
 {
-    let are_sources = are_sources(m.providers.as_slice());
+    let are_sources = are_sources(&m.providers);
     let are_given = are_given(alloc, &m.rows)?;
     let are_kept = are_kept(alloc, &m.records)?;
     let are_left = are_left(alloc, &m.orphans)?;

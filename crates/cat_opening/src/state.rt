@@ -17,10 +17,10 @@ use cat_rows::row::{
 use cat_table::listing::{Copied, Listing};
 use cat_table::map::Map;
 use cat_tree::text::Text;
+use cat_types::entries::Entries;
 use cat_types::input::Offered;
 use cat_types::issue::Issue;
 use cat_types::node::Node;
-use cat_types::table::Table;
 use cat_types::work::Output;
 use std::alloc::{AllocError, Global};
 
@@ -35,8 +35,8 @@ pub fn empty_state(alloc: Global) -> State
     ensures { result ≡ start }
 {
     State {
-        providers: Table::new(alloc),
-        shelf: Table::new(alloc),
+        providers: Map::new(),
+        shelf: Map::new(),
         rows: IndexedRows::new(),
         holders: Map::new(),
         records: Records::new(),
@@ -346,7 +346,7 @@ fn items_of(alloc: Global, trees: &Trees, rows: &[StoredRow]) -> Result<Items, A
 // Puts a provider with its items.
 fn put_provider(
     alloc: Global,
-    made: &mut Table<Text, ProviderInputs>,
+    made: &mut Map<Text, ProviderInputs>,
     items: &Items,
     row: &StoredRow,
 ) -> Result<(), AllocError>
@@ -358,7 +358,7 @@ fn put_provider(
                 serial: *serial,
                 items: items_at(items, name)?,
             };
-            made.put(name.duplicate(alloc)?, inputs)
+            made.put(alloc, name.duplicate(alloc)?, inputs)
         }
         StoredRow::Counter(..)
         | StoredRow::Item { .. }
@@ -378,10 +378,10 @@ fn served(
     alloc: Global,
     items: &Items,
     rows: &[StoredRow],
-) -> Result<Table<Text, ProviderInputs>, AllocError>
+) -> Result<Map<Text, ProviderInputs>, AllocError>
     ensures { IfOk result (λ made. made ≡ puts text_cmp (flat_map (spec.provider_in items.now) rows.now) []) }
 {
-    let mut made = Table::new(alloc);
+    let mut made = Map::new();
     for row in rows {
         put_provider(alloc, &mut made, items, row)?;
     }
@@ -393,20 +393,20 @@ fn providers_of(
     alloc: Global,
     trees: &Trees,
     rows: &[StoredRow],
-) -> Result<Table<Text, ProviderInputs>, AllocError>
+) -> Result<Map<Text, ProviderInputs>, AllocError>
     ensures { IfOk result (λ made. made ≡ spec.providers_of trees.now rows.now) }
 {
     let items = items_of(alloc, trees, rows)?;
     served(alloc, &items, rows)
 }
 
-fn put_text(alloc: Global, shelf: &mut Table<Text, Text>, row: &StoredRow) -> Result<(), AllocError>
+fn put_text(alloc: Global, shelf: &mut Map<Text, Text>, row: &StoredRow) -> Result<(), AllocError>
     ensures { OnOk result (shelf.new ≡ puts text_cmp (spec.text_in row.now) shelf.old) }
 {
     match row {
         StoredRow::Shelf { name, body } => {
             let name = name.duplicate(alloc)?;
-            shelf.put(name, body.duplicate(alloc)?)
+            shelf.put(alloc, name, body.duplicate(alloc)?)
         }
         StoredRow::Counter(..)
         | StoredRow::Provider { .. }
@@ -421,10 +421,10 @@ fn put_text(alloc: Global, shelf: &mut Table<Text, Text>, row: &StoredRow) -> Re
 }
 
 #[tactic(auto, using(crate::proofs::Putting::puts_parts))]
-fn shelf_of(alloc: Global, rows: &[StoredRow]) -> Result<Table<Text, Text>, AllocError>
+fn shelf_of(alloc: Global, rows: &[StoredRow]) -> Result<Map<Text, Text>, AllocError>
     ensures { IfOk result (λ shelf. shelf ≡ spec.shelf_of rows.now) }
 {
-    let mut shelf = Table::new(alloc);
+    let mut shelf = Map::new();
     for row in rows {
         put_text(alloc, &mut shelf, row)?;
     }
@@ -497,7 +497,7 @@ fn output_in(alloc: Global, trees: &Trees, output: &StoredOutput) -> Result<Outp
     }
     Ok(Output {
         entity: output.entity.duplicate(alloc)?,
-        offers: Table::from_vec(offers),
+        offers: Entries::from_vec(offers),
     })
 }
 

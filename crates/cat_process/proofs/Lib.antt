@@ -4,3 +4,4 @@ pub mod Cases
 pub mod Wanted
 pub mod OnShelf
 pub mod Whole
+pub mod Reading

@@ -2,9 +2,9 @@
 use Rattle.std.proofs.Common.{◌≡◌, ◌==◌, Bool, true, false, cond, List, [], Ok, length, refl, ap, ◌∙◌}
 use Rattle.cat_tree.specs.Data.{Data}
 use Rattle.cat_schema.specs.Rules.{breaches}
-use Rattle.cat_target.specs.Targets.{targets_of}
+use Rattle.cat_target.specs.Targets.{targets_of, unless_faulty}
 use Rattle.cat_target.specs.declared.target.Target.{Target}
-use Rattle.cat_process.specs.Process.{is_location, unless_faulty, wanted_of}
+use Rattle.cat_process.specs.Process.{is_location, wanted_of}
 
 abbrev none : List Target
 none = []

@@ -20,7 +20,7 @@ use Rattle.cat_schema.specs.declared.faults.SchemaFault.{SchemaFault}
 use Rattle.cat_kinds.specs.Kinds.{kind_faults}
 use Rattle.cat_kinds.specs.declared.answer.KindFault.{KindFault}
 use Rattle.cat_target.specs.Location.{is_optional}
-use Rattle.cat_target.specs.Targets.{targets_of}
+use Rattle.cat_target.specs.Targets.{targets_of, unless_faulty}
 use Rattle.cat_target.specs.declared.target.Target.{Target}
 use Rattle.cat_target.specs.declared.target.TargetFault.{TargetFault}
 use Rattle.cat_inputs.specs.Shelf.{shelf_reading}
@@ -43,11 +43,6 @@ is_location d = is_named_location (text_at (child_of (codes "kind") d))
 -- the targets of a Location, and none of another kind
 abbrev pub entity_targets : Data → Result (List Target) TargetFault
 entity_targets d = if is_location d then targets_of d else Ok []
-
--- the targets, and none where they are at fault
-abbrev pub unless_faulty : Result (List Target) TargetFault → List Target
-unless_faulty (Ok targets) = targets
-unless_faulty (Err fault) = []
 
 -- the targets of a Location without schema or target fault, else none
 unfoldable pub wanted_of : Data → List Target

@@ -4,16 +4,16 @@ ghost use Rattle.std.specs.Option.{option_copied};
 ghost use Rattle.cat_tree.specs.View.{data_of};
 ghost use Rattle.cat_process.specs.Process as spec;
 ghost use Rattle.cat_schema.specs.Rules.{breaches};
-ghost use Rattle.cat_target.specs.Targets.{targets_of};
+ghost use Rattle.cat_target.specs.Targets.{targets_of, unless_faulty};
 
 use cat_schema::rules::check;
 use cat_table::listing::{Copied, Listing};
-use cat_target::target::{Target, TargetFault, targets};
+use cat_table::map::Map;
+use cat_target::target::{Target, TargetFault, targets, targets_unless_faulty};
 use cat_tree::ask::child;
 use cat_tree::text::Text;
 use cat_tree::tree::Tree;
 use cat_types::node::Node;
-use cat_types::table::Table;
 use cat_types::work::Content;
 use std::alloc::{AllocError, Global};
 
@@ -41,21 +41,10 @@ pub fn entity_targets(alloc: Global, tree: &Tree) -> Result<Vec<Target>, TargetF
     }
 }
 
-// The targets of a Location, or none at a fault.
-fn targets_unless_faulty(alloc: Global, tree: &Tree) -> Result<Vec<Target>, AllocError>
-    ensures { IfOk result (λ v. v.items ≡ spec.unless_faulty (targets_of (data_of tree.now))) }
-{
-    match targets(alloc, tree) {
-        Ok(found) => Ok(found),
-        Err(TargetFault::NoMemory) => Err(AllocError),
-        Err(_) => Ok(Vec::new(alloc)),
-    }
-}
-
 // The targets of a Location that breaks no rule and has no target fault, else none.
 fn faultless_targets(alloc: Global, tree: &Tree) -> Result<Vec<Target>, AllocError>
     ensures { IfOk result (λ v. v.items ≡ (if length (breaches (data_of tree.now)) == 0
-        then spec.unless_faulty (targets_of (data_of tree.now)) else [])) }
+        then unless_faulty (targets_of (data_of tree.now)) else [])) }
 {
     let faults = check(alloc, tree)?;
     if faults.is_empty() {
@@ -89,7 +78,7 @@ fn copied(alloc: Global, text: Option<&Text>) -> Result<Option<Text>, AllocError
 // The text that the shelf has for a target.
 fn content_from(
     alloc: Global,
-    shelf: &Table<Text, Text>,
+    shelf: &Map<Text, Text>,
     target: Target,
 ) -> Result<Content, AllocError>
     ensures { IfOk result (λ c. c ≡ spec.content_from shelf.now target) }
@@ -103,7 +92,7 @@ fn content_from(
 
 fn contents_from(
     alloc: Global,
-    shelf: &Table<Text, Text>,
+    shelf: &Map<Text, Text>,
     targets: Vec<Target>,
 ) -> Result<Listing<Content>, AllocError>
     ensures { IfOk result (λ c. c ≡ map (spec.content_from shelf.now) targets.items) }
@@ -121,7 +110,7 @@ fn contents_from(
 pub fn contents(
     alloc: Global,
     tree: &Node,
-    shelf: &Table<Text, Text>,
+    shelf: &Map<Text, Text>,
 ) -> Result<Listing<Content>, AllocError>
     ensures { IfOk result (λ c. c ≡ spec.contents_of tree.now shelf.now) }
 {

@@ -19,10 +19,10 @@ use cat_tree::clone::copy;
 use cat_tree::edit::with_key;
 use cat_tree::text::Text;
 use cat_tree::tree::Tree;
+use cat_types::entries::Entries;
 use cat_types::input::Offered;
 use cat_types::issue::{Issue, IssueName};
 use cat_types::node::Node;
-use cat_types::table::Table;
 use cat_types::work::{Content, Outcome, Output, Work};
 use std::alloc::{AllocError, Global};
 
@@ -152,7 +152,7 @@ fn good(alloc: Global, tree: &Tree, offers: Vec<(Ref, Offered)>) -> Result<Outco
     let offers = each_once(alloc, offers)?;
     let output = Output {
         entity,
-        offers: Table::from_vec(offers.first),
+        offers: Entries::from_vec(offers.first),
     };
     Ok(Outcome::Good(output, Listing::from_vec(offers.warnings)))
 }

@@ -10,7 +10,7 @@ use cat_model::types::{Row, State};
 use cat_ref::reference::Ref;
 use cat_table::key::Key;
 use cat_table::listing::Copied;
-use cat_types::table::Table;
+use cat_table::map::Map;
 use std::alloc::{AllocError, Global};
 use std::cmp::Ordering;
 
@@ -52,7 +52,7 @@ pub fn conflicts(alloc: Global, state: &State) -> Result<Vec<Conflict<'_>>, Allo
 {
     let waiting = waiting(alloc, state)?;
     let mut found = Vec::new(alloc);
-    for (place, row) in waiting.as_slice() {
+    for (place, row) in waiting.iter() {
         push_conflict(&mut found, row, holding(state, &place.reference))?;
     }
     Ok(found)
@@ -95,12 +95,12 @@ fn entries(alloc: Global, rows: &IndexedRows) -> Result<Vec<&(u64, Row)>, AllocE
 }
 
 // The rows that don't hold, by reference and arrival.
-fn waiting(alloc: Global, state: &State) -> Result<Table<Place, &Row>, AllocError>
+fn waiting(alloc: Global, state: &State) -> Result<Map<Place, &Row>, AllocError>
     ensures { IfOk result (λ t. map seen.waiting t ≡ spec.waiting state.now) }
 {
     let entries = entries(alloc, &state.rows)?;
     let rows = entries.as_slice();
-    let mut found = Table::new(alloc);
+    let mut found = Map::new();
     let mut place = rows.len();
     while place > 0 {
         place -= 1;
@@ -114,7 +114,7 @@ fn waiting(alloc: Global, state: &State) -> Result<Table<Place, &Row>, AllocErro
 // Puts the row at its place, where there is one.
 fn put_waiting<'a>(
     alloc: Global,
-    found: &mut Table<Place, &'a Row>,
+    found: &mut Map<Place, &'a Row>,
     reference: &Ref,
     arrival: u64,
     row: Option<&'a Row>,
@@ -125,7 +125,7 @@ fn put_waiting<'a>(
     match row {
         Some(row) => {
             let reference = reference.duplicate(alloc)?;
-            found.put(Place { reference, arrival }, row)
+            found.put(alloc, Place { reference, arrival }, row)
         }
         None => Ok(()),
     }

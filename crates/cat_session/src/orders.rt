@@ -7,7 +7,7 @@ use crate::replies::ROOM;
 use cat_desk::command::Reply;
 use cat_model::types::{Order, StitchOrder};
 use cat_ref::reference::Ref;
-use cat_types::table::Table;
+use cat_table::map::Map;
 use std::alloc::{AllocError, Global};
 
 /// The first of the orders with this token.
@@ -68,7 +68,8 @@ pub(crate) fn keep(orders: &mut Vec<Order>, order: Option<Order>)
 
 /// Keeps the stitch order, if there is one, under its ticket.
 pub(crate) fn keep_stitch(
-    stitches: &mut Table<u64, StitchOrder>,
+    alloc: Global,
+    stitches: &mut Map<u64, StitchOrder>,
     order: Option<StitchOrder>,
 ) -> Result<(), AllocError>
     ensures ok { OnOk result (stitches.new ≡ with_order order stitches.old) }
@@ -76,6 +77,6 @@ pub(crate) fn keep_stitch(
 {
     match order {
         None => Ok(()),
-        Some(order) => stitches.put(order.ticket, order),
+        Some(order) => stitches.put(alloc, order.ticket, order),
     }
 }

@@ -29,7 +29,7 @@ use cat_model::types::{Order, OrphanRule, Settings, State, StitchOrder};
 use cat_query::ask::Ask;
 use cat_ref::reference::Ref;
 use cat_replies::events::push_changed;
-use cat_types::table::Table;
+use cat_table::map::Map;
 use std::alloc::{AllocError, Global};
 use std::marker::Model;
 
@@ -50,7 +50,7 @@ pub struct Session<L: Layers> {
     orphans: OrphanRule,
     desk: Timed<L, FixedClock>,
     orders: Vec<Order>,
-    stitches: Table<u64, StitchOrder>,
+    stitches: Map<u64, StitchOrder>,
 }
 
 impl<L: Layers> Model for Session<L> {
@@ -135,7 +135,7 @@ impl<L: Layers> Session<L> {
             orphans,
             desk: Timed::new(Catalogue::empty(alloc, same, settings), FixedClock::at(0)),
             orders: Vec::new(alloc),
-            stitches: Table::new(alloc),
+            stitches: Map::new(),
         }
     }
 
@@ -155,7 +155,7 @@ impl<L: Layers> Session<L> {
             orphans,
             desk: Timed::new(catalogue, FixedClock::at(0)),
             orders: Vec::new(alloc),
-            stitches: Table::new(alloc),
+            stitches: Map::new(),
         }
     }
 
@@ -221,7 +221,7 @@ impl<L: Layers> Session<L> {
         let mut out = Vec::new(self.alloc);
         let reply = self.desk.act(self.alloc, Command::TakeStitch(after));
         push_reply(&mut out, &reply)?;
-        keep_stitch(&mut self.stitches, stitch_in(reply))?;
+        keep_stitch(self.alloc, &mut self.stitches, stitch_in(reply))?;
         Ok(out)
     }
 

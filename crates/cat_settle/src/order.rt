@@ -1,14 +1,11 @@
-//! The orders of a settle, and which records are due.
-ghost use Rattle.std.specs.Prelude.{◌≡◌, ◌≤◌, IfOk, IsTrue, ℕ, List, Option, Bool, min, length, option_map, option_and_then};
-ghost use Rattle.std.specs.declared.option.Option.TheVariants.{Some};
-ghost use Rattle.std.specs.FinMap.Entries.{is_sorted};
-ghost use Rattle.std.specs.List.{filter};
-ghost use Rattle.cat_table.specs.Table.{get, keys, text_cmp};
+//! The orders of a settle, and what its events count.
+ghost use Rattle.std.specs.Prelude.{◌≡◌, ◌≤◌, IfOk, ℕ, List, Option, Bool, min, length, option_map, option_and_then};
+ghost use Rattle.cat_table.specs.Table.{get};
 ghost use Rattle.cat_model.specs.declared.types.Order.{Order as OrderValue};
 ghost use Rattle.cat_model.specs.declared.types.StitchOrder.{StitchOrder as StitchOrderValue};
 ghost use Rattle.cat_model.specs.declared.types.State.{State as StateValue};
 ghost use Rattle.cat_model.specs.Catalogue.{Rules, parts};
-ghost use Rattle.cat_model.specs.Settle.{counted, due_refs, is_due, mark_order, order, order_with, stitch_order};
+ghost use Rattle.cat_model.specs.Settle.{counted, is_due, mark_order, order, order_with, stitch_order};
 ghost use Rattle.cat_model.specs.Step.Event.{Finish, PutStitch, TakeAt};
 ghost use Rattle.cat_frame.specs.Linked.{AreLinked, AreRecorded};
 ghost use Rattle.cat_settle.specs.Part.{noted};
@@ -17,10 +14,9 @@ use cat_frame::parts::present_parts;
 use cat_hold::layers::Layers;
 use cat_hold::parts::work_of;
 use cat_links::links::Links;
-use cat_model::records::Records;
 use cat_model::types::{Fault, Lease, Order, Progress, Record, State, StitchOrder, Stop};
 use cat_ref::reference::Ref;
-use cat_table::listing::{Copied, Listing};
+use cat_table::listing::Copied;
 use cat_types::parts::Parts;
 use cat_types::work::Work;
 use std::alloc::{AllocError, Global};
@@ -154,26 +150,4 @@ pub fn due(now: u64, kept: Option<&Record>) -> bool
         None => false,
         Some(kept) => kept.due <= now,
     }
-}
-
-// The keys of the entries whose records are due. Each record is looked at, and only what is due is copied.
-fn keys_due(alloc: Global, now: u64, records: &Records) -> Result<Listing<Ref>, AllocError>
-    ensures { IfOk result (λ l. l ≡ keys (filter (λ e. is_due now (Some e.1)) records.now)) }
-{
-    let mut refs = Vec::new(alloc);
-    for (reference, kept) in records.iter() {
-        if due(now, Some(kept)) {
-            refs.push(reference.duplicate(alloc)?)?;
-        }
-    }
-    Ok(Listing::from_vec(refs))
-}
-
-/// The references whose records are due, in order.
-pub(crate) fn refs_due(alloc: Global, now: u64, m: &State) -> Result<Listing<Ref>, AllocError>
-    requires { IsTrue (is_sorted text_cmp m.now.records) }
-    ensures { IfOk result (λ l. l ≡ due_refs now m.now) }
-{
-    let refs = keys_due(alloc, now, &m.records)?;
-    Ok(refs)
 }

@@ -5,7 +5,7 @@ ghost use Rattle.cat_events.specs.Coming.{IsSteady};
 ghost use Rattle.cat_events.specs.Stepped.{AreMoments};
 ghost use Rattle.cat_settle.specs.Part.{Came, CameRounds, Goes};
 
-use crate::order::{counted, refs_due};
+use crate::order::counted;
 use crate::turn::all_turned;
 use cat_hold::layers::Layers;
 use cat_links::links::Links;
@@ -52,7 +52,7 @@ pub fn all_rounds<L: Layers>(
     ensures goes { Goes L.rules p.old p.new }
 {
     'rounds: loop {
-        match refs_due(alloc, now, &p.state) {
+        match p.state.records.due(alloc, now) {
             Ok(refs) => {
                 if p.stop.is_some() || refs.len() == 0 {
                     return Ok(());

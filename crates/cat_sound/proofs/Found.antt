@@ -1,5 +1,5 @@
 -- What is found in a table passes where all entries do, and numbers that pass a test.
-use Rattle.std.proofs.Common.{T, ◌≡◌, ℕ, Bool, true, false, cond, ◌&&◌, nat_eq, List, [], ◌∷◌, length, refl, sym, ap, ◌∙◌, is_some, unwrap_or, true≢false, arith, Ordering, eqb-true}
+use Rattle.std.proofs.Common.{T, ◌≡◌, Bool, true, false, cond, nat_eq, List, [], ◌∷◌, length, refl, sym, ap, ◌∙◌, is_some, unwrap_or, true≢false, arith, Ordering, eqb-true}
 use Rattle.std.specs.declared.option.Option.{Option}
 use Rattle.std.specs.declared.option.Option.TheVariants.{None, Some}
 use Rattle.std.specs.Cmp.{IsTotalOrder}

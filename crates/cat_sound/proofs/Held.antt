@@ -1,12 +1,12 @@
 -- The holders, records and orphans of a tested candidate.
-use Rattle.std.proofs.Common.{◌≡◌, ℕ, Bool, true, false, not, ◌&&◌, nat_eq, length, refl, sym, ap, subst, ◌∙◌, is_none, is_some, true≢false}
+use Rattle.std.proofs.Common.{◌≡◌, ℕ, true, false, ◌&&◌, length, refl, sym, ◌∙◌, is_some, true≢false}
 use Rattle.std.specs.declared.option.Option.{Option}
 use Rattle.std.specs.declared.option.Option.TheVariants.{None, Some}
 use Rattle.std.specs.Cmp.{both_ways}
 use Rattle.std.specs.List.{list_all}
-use Rattle.cat_table.specs.Table.{get, same_text}
-use Rattle.cat_table.proofs.Tables.{and_first, and_second, not_true, same_is, some_or_none, text_antisymmetric, text_total}
-use Rattle.cat_model.specs.Catalogue.{Holders, Ref, Rows, held, row_at, rooted}
+use Rattle.cat_table.specs.Table.{get}
+use Rattle.cat_table.proofs.Tables.{and_first, and_second, same_is, some_or_none, text_antisymmetric, text_total}
+use Rattle.cat_model.specs.Catalogue.{Ref, Rows, held, row_at}
 use Rattle.cat_model.specs.Sound.{AreHolders, IsRowOf}
 use Rattle.cat_model.specs.declared.types.Orphan.{Orphan}
 use Rattle.cat_model.specs.declared.types.Row.{Row}

@@ -3,7 +3,7 @@ use Rattle.std.proofs.Common.{T, ◌≡◌, Bool, true, false, cond, ◌||◌, L
 use Rattle.std.specs.FinMap.Entries.{is_sorted}
 use Rattle.std.specs.List.{list_any}
 use Rattle.std.specs.Option.{option_and_then}
-use Rattle.cat_table.specs.Table.{Text, get, keys, same_text, text_cmp}
+use Rattle.cat_table.specs.Table.{Text, keys, same_text, text_cmp}
 use Rattle.cat_table.proofs.Tables.{no_key, same_is, text_antisymmetric, text_total}
 use Rattle.cat_types.specs.declared.relation.Relation.{Relation}
 use Rattle.cat_links.specs.Changes.{with_changes, with_emitter}

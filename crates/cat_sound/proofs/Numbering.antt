@@ -1,9 +1,9 @@
 -- The numbers of a tested candidate.
-use Rattle.std.proofs.Common.{◌≡◌, ℕ, ◌<◌, ◌≤◌, Bool, true, false, ◌&&◌, nat_le, nat_lt, refl, sym, ap, ◌∙◌, is_some, unwrap_or, true≢false, leb-true, ltb-true}
+use Rattle.std.proofs.Common.{◌≡◌, ℕ, ◌≤◌, true, ◌&&◌, nat_le, nat_lt, refl, sym, ap, ◌∙◌, is_some, unwrap_or, true≢false, leb-true, ltb-true}
 use Rattle.std.specs.declared.option.Option.{Option}
 use Rattle.std.specs.declared.option.Option.TheVariants.{None, Some}
 use Rattle.std.specs.Ordering.{nat_cmp}
-use Rattle.cat_table.specs.Table.{find, get, same_text}
+use Rattle.cat_table.specs.Table.{find, get}
 use Rattle.cat_table.proofs.Tables.{and_first, and_second, same_is, text_antisymmetric, text_total}
 use Rattle.cat_model.specs.Catalogue.{Ref}
 use Rattle.cat_model.specs.Sound.{AreNumbers, its_number, number_in}

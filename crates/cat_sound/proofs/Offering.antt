@@ -1,5 +1,5 @@
 -- The rows of a tested candidate are what is offered.
-use Rattle.std.proofs.Common.{◌≡◌, ℕ, ◌<◌, Bool, true, false, ◌&&◌, nat_lt, List, refl, sym, ap, subst, ◌∙◌, is_some, unwrap_or, true≢false, eqb-true, ltb-true}
+use Rattle.std.proofs.Common.{◌≡◌, ℕ, ◌<◌, true, ◌&&◌, nat_lt, refl, sym, ap, ◌∙◌, is_some, unwrap_or, true≢false, eqb-true, ltb-true}
 use Rattle.std.specs.declared.option.Option.{Option}
 use Rattle.std.specs.declared.option.Option.TheVariants.{None, Some}
 use Rattle.std.specs.Cmp.{nat_cmp_total}
@@ -11,7 +11,7 @@ use Rattle.cat_table.specs.Table.{get, same_text}
 use Rattle.cat_table.proofs.Tables.{and_first, and_second, same_is, text_antisymmetric, text_total}
 use Rattle.cat_types.specs.declared.input.Offered.{Offered}
 use Rattle.cat_types.specs.declared.work.Output.{Output}
-use Rattle.cat_model.specs.Catalogue.{Ref, output_of, row_at}
+use Rattle.cat_model.specs.Catalogue.{Ref, row_at}
 use Rattle.cat_model.specs.Sound.{AreOffers, HasRow, offered}
 use Rattle.cat_model.specs.Step.{is_offer, same_origin}
 use Rattle.cat_model.specs.declared.types.Origin.{Origin}

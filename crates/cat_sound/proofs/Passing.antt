@@ -1,5 +1,5 @@
 -- A state of which all holds that holds between two events, with every record due and free, and nothing marked or stitched, passes as a candidate.
-use Rattle.std.proofs.Common.{T, ◌≡◌, ◌⊎◌, inl, inr, ℕ, ◌≤◌, ◌<◌, ◌^◌, Bool, true, false, not, ◌&&◌, nat_eq, nat_le, nat_lt, cond, List, [], ◌∷◌, length, refl, sym, ap, subst, ◌∙◌, is_none, is_some, unwrap_or, true≢false, eq-eqb, le-leb, lt-ltb, Ordering, Less, Equal, Greater}
+use Rattle.std.proofs.Common.{T, ◌≡◌, ◌⊎◌, inl, inr, ℕ, ◌≤◌, ◌^◌, Bool, true, false, not, ◌&&◌, cond, List, [], ◌∷◌, length, refl, sym, ap, ◌∙◌, is_none, is_some, unwrap_or, true≢false, eq-eqb, le-leb, lt-ltb, Ordering, Less, Equal, Greater}
 use Rattle.std.specs.declared.option.Option.{Option}
 use Rattle.std.specs.declared.option.Option.TheVariants.{None, Some}
 use Rattle.std.specs.Cmp.{IsTotalOrder, nat_cmp_total}
@@ -14,10 +14,9 @@ use Rattle.cat_table.specs.Table.{Map, Text, find, get, put, same_text, text_cmp
 use Rattle.cat_table.proofs.Tables.{and_first, and_second, same_is, same_self, some_or_none, text_antisymmetric, text_total}
 use Rattle.cat_types.specs.declared.input.Offered.{Offered}
 use Rattle.cat_types.specs.declared.work.Output.{Output}
-use Rattle.cat_model.specs.Catalogue.{Ref, Rows, held, output_of, row_at}
+use Rattle.cat_model.specs.Catalogue.{Ref, Rows, held, row_at}
 use Rattle.cat_model.specs.Sound.{AreHolders, AreNumbers, AreOffers, HasRow, IsRowOf, its_number, number_in, offered}
-use Rattle.cat_model.specs.Step.{is_offer, same_origin}
-use Rattle.cat_model.specs.declared.types.Lease.{Lease}
+use Rattle.cat_model.specs.Step.{is_offer}
 use Rattle.cat_model.specs.declared.types.Origin.{Origin}
 use Rattle.cat_model.specs.declared.types.Origin.TheVariants.{Provider, Entity}
 use Rattle.cat_model.specs.declared.types.Orphan.{Orphan}
@@ -27,7 +26,6 @@ use Rattle.cat_model.specs.declared.types.Row.{Row}
 use Rattle.cat_model.specs.declared.types.State.{State}
 use Rattle.cat_laws.proofs.Replaced.{same_origin-self}
 use Rattle.cat_sound.specs.declared.offers.RowIndex.{RowIndex}
-use Rattle.cat_sound.specs.Above.{climbs_from}
 use Rattle.cat_sound.specs.Candidate.{are_counters_right, are_items_shown, are_offers_shown, are_tables_sorted, is_all_right, is_arrival, is_bare, is_candidate, is_name, is_offered, is_right_holder, is_right_number, is_right_orphan, is_right_record, is_right_row, is_row_of, is_shown, names_of}
 use Rattle.cat_sound.specs.Indexed.{Names, arrival_in, row_index, with_arrival, with_names, with_rows}
 use Rattle.cat_sound.proofs.Climbing.{climbs_is}

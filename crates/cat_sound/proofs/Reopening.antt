@@ -1,5 +1,5 @@
 -- A candidate that passes is a state of a catalogue once it has its documents.
-use Rattle.std.proofs.Common.{T, ◌≡◌, ℕ, ◌≤◌, ◌^◌, Bool, true, false, not, ◌&&◌, nat_eq, nat_le, List, [], inr, length, refl, sym, ap, subst, ◌∙◌, is_none, is_some, unwrap_or, true≢false, arith, eqb-true, leb-true}
+use Rattle.std.proofs.Common.{T, ◌≡◌, ◌≤◌, ◌^◌, Bool, true, false, not, ◌&&◌, nat_eq, nat_le, [], inr, length, refl, sym, ap, subst, ◌∙◌, is_none, is_some, true≢false, arith, eqb-true, leb-true}
 use Rattle.std.specs.declared.option.Option.{Option}
 use Rattle.std.specs.declared.option.Option.TheVariants.{None, Some}
 use Rattle.std.specs.FinMap.Entries.{is_sorted}
@@ -9,7 +9,7 @@ use Rattle.std.specs.Ordering.{nat_cmp}
 use Rattle.cat_table.specs.Table.{Map, get, over, tabulate, text_cmp}
 use Rattle.cat_table.proofs.Tables.{and_first, and_second, find-tabulate_all, is_sorted-tabulate, not_true, text_antisymmetric, text_total}
 use Rattle.cat_types.specs.declared.parts.Parts.{Parts}
-use Rattle.cat_model.specs.Catalogue.{Ref, Rules, Tree, due_now, held, known_refs, parts, row_at, work}
+use Rattle.cat_model.specs.Catalogue.{Ref, Rules, Tree, due_now, held, known_refs, parts, work}
 use Rattle.cat_model.specs.Sound.{AreBegun, AreOffers, AreOrdered, AreNumbers, AreSmall, IsStitched, Sound}
 use Rattle.cat_model.specs.Step.{reopened}
 use Rattle.cat_model.specs.declared.types.Lease.{Lease}

@@ -7,7 +7,6 @@ use Rattle.cat_table.specs.Table.{Map, find, put, text_cmp}
 use Rattle.cat_model.specs.Catalogue.{Ref, Rows}
 use Rattle.cat_model.specs.declared.types.Origin.{Origin}
 use Rattle.cat_model.specs.declared.types.Origin.TheVariants.{Provider, Entity}
-use Rattle.cat_model.specs.declared.types.Row.{Row}
 use Rattle.cat_sound.specs.declared.offers.RowIndex.{RowIndex}
 
 -- the arrival that is kept for an origin and a reference

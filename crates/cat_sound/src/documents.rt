@@ -1,6 +1,5 @@
 //! The documents of a candidate.
-ghost use Rattle.std.specs.Prelude.{◌≡◌, IfOk, IsTrue, option_map};
-ghost use Rattle.std.specs.FinMap.Entries.{is_sorted};
+ghost use Rattle.std.specs.Prelude.{◌≡◌, IfOk, option_map};
 ghost use Rattle.cat_table.specs.Table.{tabulate, text_cmp};
 ghost use Rattle.cat_model.specs.Catalogue.{known_refs, parts};
 ghost use Rattle.cat_frame.specs.Linked.{AreLinked, AreRecorded, linked_parts};
@@ -14,9 +13,7 @@ use cat_model::types::State;
 use cat_ref::reference::Ref;
 use cat_table::listing::{Copied, Listing};
 use cat_table::map::Map;
-use cat_table::tree::MOST;
 use cat_types::node::Node;
-use cat_types::table::Table;
 use std::alloc::{AllocError, Global};
 
 // The references that have a record or are orphans, in order.
@@ -58,21 +55,6 @@ impl<L: Layers> Gives<Ref, Node> for Stitched<'_, L> {
     }
 }
 
-// A table as a map.
-fn mapped(alloc: Global, table: &Table<Ref, Node>) -> Result<Map<Ref, Node>, AllocError>
-    requires { IsTrue (is_sorted text_cmp table.now) }
-    ensures { IfOk result (λ m. m ≡ table.now) }
-{
-    if table.len() > MOST {
-        return Err(AllocError);
-    }
-    let mut entries = Vec::with_capacity(alloc, table.len())?;
-    for entry in table.as_slice() {
-        entries.push(entry.duplicate(alloc)?)?;
-    }
-    Map::from_vec(alloc, entries)
-}
-
 /// The document of each reference that has parts.
 pub fn documents_of<L: Layers>(
     alloc: Global,
@@ -86,6 +68,5 @@ pub fn documents_of<L: Layers>(
 {
     let all = all_refs(alloc, m)?;
     let stitched = Stitched { layers, links, m };
-    let table = tabulated(alloc, all.as_slice(), &stitched)?;
-    mapped(alloc, &table)
+    tabulated(alloc, all.as_slice(), &stitched)
 }

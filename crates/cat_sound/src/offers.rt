@@ -18,8 +18,8 @@ use cat_table::listing::Copied;
 use cat_table::map::Map;
 use cat_table::pair::Pair;
 use cat_tree::text::Text;
+use cat_types::entries::Entries;
 use cat_types::input::Offered;
-use cat_types::table::Table;
 use cat_types::work::Output;
 use std::alloc::{AllocError, Global};
 use std::cmp::Ordering;
@@ -226,7 +226,7 @@ fn are_items_shown(
 pub fn are_all_items_shown(m: &State, index: &RowIndex) -> bool
     ensures { result ≡ list_all (spec.are_items_shown m.now.rows index.now) m.now.providers }
 {
-    for (provider, inputs) in m.providers.as_slice() {
+    for (provider, inputs) in m.providers.iter() {
         if !are_items_shown(&m.rows, index, provider, inputs) {
             return false;
         }
@@ -238,7 +238,7 @@ fn are_shown(
     rows: &IndexedRows,
     index: &RowIndex,
     emitter: &Ref,
-    offers: &Table<Ref, Offered>,
+    offers: &Entries<Ref, Offered>,
 ) -> bool
     ensures { result ≡ list_all (λ x. spec.is_shown rows.now index.now (Entity emitter.now) x.0) offers.now }
 {

@@ -11,7 +11,7 @@ use cat_model::records::Records;
 use cat_model::rows::IndexedRows;
 use cat_model::types::{Orphan, ProviderInputs, Row, State};
 use cat_ref::reference::Ref;
-use cat_table::map::{Map, rise};
+use cat_table::map::Map;
 use cat_tree::text::Text;
 use cat_types::input::Offered;
 use cat_types::work::Output;
@@ -24,10 +24,10 @@ fn is_right_provider(serial: u64, inputs: &ProviderInputs) -> bool
     true
 }
 
-fn are_right_providers(providers: &[(Text, ProviderInputs)]) -> bool
+fn are_right_providers(providers: &Map<Text, ProviderInputs>) -> bool
     ensures { result ≡ list_all spec.is_right_provider providers.now }
 {
-    for (_, inputs) in providers {
+    for (_, inputs) in providers.iter() {
         if !is_right_provider(inputs.serial, inputs) {
             return false;
         }
@@ -110,15 +110,15 @@ fn are_narrow_orphans(orphans: &Map<Ref, Orphan>) -> bool
     true
 }
 
-/// Whether the providers of a state, their items and the shelf are in order, and the numbers of all that it keeps have 64 bits. Of a
+/// Whether the providers of a state, their items and the shelf are in order, as those of a map are, and the numbers of all that it keeps have 64 bits. Of a
 /// state that is sound, the rows tell it then.
 #[tactic(auto, unfolding(crate::specs::Tells::is_telling))]
 pub(crate) fn is_telling(m: &State) -> bool
     ensures { result ≡ spec.is_telling m.now }
 {
-    rise(m.providers.as_slice())
-        && rise(m.shelf.as_slice())
-        && are_right_providers(m.providers.as_slice())
+    m.providers.in_order();
+    m.shelf.in_order();
+    are_right_providers(&m.providers)
         && are_narrow_rows(&m.rows)
         && are_narrow_records(&m.records)
         && are_narrow_orphans(&m.orphans)

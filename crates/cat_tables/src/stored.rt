@@ -33,11 +33,11 @@ fn put_row(alloc: Global, made: &mut Stored, row: StoredRow) -> Result<(), Alloc
 fn put_providers(
     alloc: Global,
     made: &mut Stored,
-    providers: &[(Text, ProviderInputs)],
+    providers: &Map<Text, ProviderInputs>,
 ) -> Result<(), AllocError>
     ensures { OnOk result (made.new ≡ spec.put_rows (map spec.provider_row providers.now) made.old) }
 {
-    for (name, inputs) in providers {
+    for (name, inputs) in providers.iter() {
         put_row(alloc, made, provider_row(alloc, name, inputs)?)?;
     }
     Ok(())
@@ -113,10 +113,10 @@ fn put_all_given(
 }
 
 // Puts the texts of the shelf.
-fn put_shelf(alloc: Global, made: &mut Stored, shelf: &[(Text, Text)]) -> Result<(), AllocError>
+fn put_shelf(alloc: Global, made: &mut Stored, shelf: &Map<Text, Text>) -> Result<(), AllocError>
     ensures { OnOk result (made.new ≡ spec.put_rows (map spec.shelf_row shelf.now) made.old) }
 {
-    for (name, body) in shelf {
+    for (name, body) in shelf.iter() {
         put_row(alloc, made, shelf_row(alloc, name, body)?)?;
     }
     Ok(())
@@ -219,9 +219,9 @@ pub(crate) fn put_kept(
 ) -> Result<(), AllocError>
     ensures { OnOk result (made.new ≡ spec.put_rows (spec.kept_in version m.now) made.old) }
 {
-    put_providers(alloc, made, m.providers.as_slice())?;
+    put_providers(alloc, made, &m.providers)?;
     put_all_given(alloc, made, version, &m.rows)?;
-    put_shelf(alloc, made, m.shelf.as_slice())?;
+    put_shelf(alloc, made, &m.shelf)?;
     let arrivals = emitted(alloc, &m.rows)?;
     put_records(alloc, made, version, &m.holders, &arrivals, &m.records)?;
     put_orphans(alloc, made, &m.orphans)

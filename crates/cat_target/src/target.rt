@@ -93,6 +93,38 @@ pub fn targets(alloc: Global, tree: &Tree) -> Result<Vec<Target>, TargetFault>
     }
 }
 
+/// The targets of a Location, or none at a fault. The only refusal is want of memory.
+pub fn targets_unless_faulty(alloc: Global, tree: &Tree) -> Result<Vec<Target>, AllocError>
+    ensures { IfOk result (λ v. v.items ≡ spec.unless_faulty (spec.targets_of (data_of tree.now))) }
+{
+    match targets(alloc, tree) {
+        Ok(found) => Ok(found),
+        Err(TargetFault::NoMemory) => Err(AllocError),
+        Err(_) => Ok(Vec::new(alloc)),
+    }
+}
+
+// The names of targets.
+fn names_in(alloc: Global, targets: &[Target]) -> Result<Vec<Text>, AllocError>
+    ensures { IfOk result (λ v. v.items ≡ map (λ t. t.name) targets.now) }
+{
+    let mut names = Vec::new(alloc);
+    for target in targets {
+        names.push(Text::of(alloc, target.name.as_str())?)?;
+    }
+    Ok(names)
+}
+
+/// The shelf names that a descriptor may read: those of its targets, as a Location has them, and none where they are at fault. An
+/// entity of another kind reads none, also where it has fields of such names. The only refusal is want of memory.
+#[tactic(auto, unfolding(crate::specs::Targets::read_names))]
+pub fn read_names(alloc: Global, tree: &Tree) -> Result<Vec<Text>, AllocError>
+    ensures { IfOk result (λ v. v.items ≡ spec.read_names (data_of tree.now)) }
+{
+    let targets = targets_unless_faulty(alloc, tree)?;
+    names_in(alloc, targets.as_slice())
+}
+
 // The targets of a Location of this type with these texts.
 fn targets_by_type(
     alloc: Global,

@@ -1,7 +1,7 @@
 //! What contracts see of a session.
 use cat_model::types::{Order, OrphanRule, State, StitchOrder};
 use cat_table::listing::Listing;
-use cat_types::table::Table;
+use cat_table::map::Map;
 
 /// The catalogue's state, the moment in milliseconds, the orders that were handed out, the oldest first, and the stitch orders
 /// that were handed out, by ticket.
@@ -10,7 +10,7 @@ pub struct SessionState {
     pub state: State,
     pub now: u64,
     pub orders: Listing<Order>,
-    pub stitches: Table<u64, StitchOrder>,
+    pub stitches: Map<u64, StitchOrder>,
 }
 
 /// A session, and the rule for orphans under which it runs.

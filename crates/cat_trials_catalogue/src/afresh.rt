@@ -8,8 +8,6 @@ use cat_layers::layered::Layered;
 use cat_model::types::{OrphanRule, Settings, State};
 use cat_query::answers::push_list;
 use cat_query::read::read_query;
-use cat_table::listing::Copied;
-use cat_table::map::Map;
 use cat_tree::text::Text;
 use std::alloc::Global;
 use std::test::Fail;
@@ -18,14 +16,7 @@ fn shown(alloc: Global, state: &State) -> Result<(Vec<u8>, Vec<u8>), Fail> {
     let all = read_query(alloc, "")?;
     let mut kept = Vec::new(alloc);
     push_list(alloc, &mut kept, &state.documents, &all)?;
-    let mut documents = Map::new();
-    for (reference, document) in documents_afresh(alloc, &Layered, state)?.as_slice() {
-        documents.put(
-            alloc,
-            reference.duplicate(alloc)?,
-            document.duplicate(alloc)?,
-        )?;
-    }
+    let documents = documents_afresh(alloc, &Layered, state)?;
     let mut afresh = Vec::new(alloc);
     push_list(alloc, &mut afresh, &documents, &all)?;
     Ok((kept, afresh))

@@ -1,8 +1,8 @@
 //! Works and parts beside others.
 use crate::made::{parts, work};
-use cat_same::same::{parts_alike, works_alike};
 use cat_types::issue::IssueName;
 use cat_types::relation::RelKind;
+use cat_types::same::{parts_alike, works_alike};
 use std::test::Fail;
 
 #[test]

@@ -2,3 +2,4 @@ pub mod Amended
 pub mod Relation
 pub mod Relations
 pub mod Rising
+pub mod Same

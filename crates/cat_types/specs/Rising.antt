@@ -1,4 +1,4 @@
--- Whether the keys of a table are known to rise.
+-- Whether the keys of entries are known to rise.
 use Rattle.std.specs.Prelude.{Bool, true, false, T, List}
 use Rattle.std.specs.declared.cmp.Ordering.{Ordering}
 use Rattle.std.specs.FinMap.Entries.{is_sorted}

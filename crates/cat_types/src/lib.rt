@@ -1,19 +1,21 @@
-//! The plain types that the definitions of the catalogue speak of: lists and tables that contracts see as their
-//! entries, trees that contracts see as data, relations and issues.
+//! The plain types that the definitions of the catalogue speak of: trees that contracts see as data, entries by key in the
+//! order in which they are given, relations and issues.
 //!
 //! It stands on cat_tree, cat_ref and cat_table. Code and definitions share these types, so no mapping lies between them: the value
-//! that a contract sees is the plain record, list or table itself.
+//! that a contract sees is the plain record or list itself.
 //!
-//! The promise: a table's look-ups and changes are std's `find` and `put` over its entries, a copy equals what it was made
-//! of, and relations are ordered by source, name and target.
+//! The promise: a look-up among entries finds the first at its key, a copy equals what it was made of, relations are ordered by
+//! source, name and target, and the tests of equality, by which the catalogue makes a record due where its work isn't what it was and
+//! stitches a document where its parts aren't what they were, are true of equals and of equals alone.
 #![tactic(auto)]
 
+pub mod entries;
 pub mod input;
 pub mod issue;
 pub mod node;
 pub mod order;
 pub mod parts;
 pub mod relation;
-mod rows;
-pub mod table;
+pub mod same;
+pub mod sorted;
 pub mod work;

@@ -1,8 +1,8 @@
 //! What processing takes, and what comes of it.
+use crate::entries::Entries;
 use crate::input::Offered;
 use crate::issue::Issue;
 use crate::node::Node;
-use crate::table::Table;
 use cat_ref::reference::Ref;
 use cat_table::listing::{Copied, Listing};
 use cat_tree::text::Text;
@@ -26,7 +26,7 @@ pub struct Work {
 #[derive(Drop)]
 pub struct Output {
     pub entity: Node,
-    pub offers: Table<Ref, Offered>,
+    pub offers: Entries<Ref, Offered>,
 }
 
 /// The result of a work: an output with its warnings, or issues alone.

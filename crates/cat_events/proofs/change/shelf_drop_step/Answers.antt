@@ -1,9 +1,13 @@
-use Rattle.std.proofs.Common.{sym, ap, ◌∙◌}
+use Rattle.std.proofs.Common.{sym, ap, ◌∙◌, subst}
 use Rattle.cat_events.specs.Coming.{seen}
 use Rattle.cat_events.specs.Planned.{planned}
-use Rattle.cat_events.specs.Shelf.{with_shelf}
+use Rattle.cat_events.specs.Shelf.{DifferAt, with_shelf}
+use Rattle.cat_events.proofs.Shelves.{drop_differs}
 use Rattle.cat_events.proofs.Steps.{drop_steps}
 use Rattle.cat_events.proofs.change.shelf_drop_step.Goals as goal
+
+pub shelf_plan-requires-clause-one : goal.shelf_plan-requires-clause-one
+shelf_plan-requires-clause-one g c = subst (DifferAt c.args.name.now c.args.m.now.shelf) (sym c.in_ok-shelf.ensures) (drop_differs c.args.name.now c.args.m.now.shelf)
 
 pub returns-in_ok-plan-clause-come : goal.returns-in_ok-plan-clause-come
 returns-in_ok-plan-clause-come g c =

@@ -1,9 +1,13 @@
-use Rattle.std.proofs.Common.{ap}
+use Rattle.std.proofs.Common.{ap, sym, subst}
 use Rattle.cat_events.specs.Coming.{seen}
 use Rattle.cat_events.specs.Planned.{planned}
-use Rattle.cat_events.specs.Shelf.{with_shelf}
+use Rattle.cat_events.specs.Shelf.{DifferAt, with_shelf}
+use Rattle.cat_events.proofs.Shelves.{put_differs}
 use Rattle.cat_events.proofs.Steps.{put_steps}
 use Rattle.cat_events.proofs.change.shelf_put_step.Goals as goal
+
+pub shelf_plan-requires-clause-one : goal.shelf_plan-requires-clause-one
+shelf_plan-requires-clause-one g c = subst (DifferAt c.args.name.now c.args.m.now.shelf) (sym c.in_ok-shelf.ensures) (put_differs c.args.name.now c.args.text.now c.args.m.now.shelf)
 
 pub returns-clause-come : goal.returns-clause-come
 returns-clause-come g c =

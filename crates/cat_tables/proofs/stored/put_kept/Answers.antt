@@ -16,11 +16,11 @@ returns c =
     let m5 = c.put_orphans.new.made in
     let arrivals : c.in_ok-arrivals.arrivals ≡ emitted m.rows = c.in_ok-arrivals.ensures in
     let e1 : m1 ≡ put_rows (map provider_row m.providers) c.args.made.now =
-    c.in_ok-put_providers.ensures ∙ ap (λ l. put_rows (map provider_row l) c.args.made.now) c.as_slice.ensures in
+    c.in_ok-put_providers.ensures in
     let e2 : m2 ≡ put_rows (flat_map given m.rows) m1 =
     c.in_ok-put_all_given.ensures in
     let e3 : m3 ≡ put_rows (map shelf_row m.shelf) m2 =
-    c.in_ok-put_shelf.ensures ∙ ap (λ l. put_rows (map shelf_row l) m2) c.as_slice-2.ensures in
+    c.in_ok-put_shelf.ensures in
     let e4 : m4 ≡ put_rows (map (record_in c.args.version m.holders (emitted m.rows)) m.records) m3 =
     c.in_ok-put_records.ensures ∙ ap (λ a. put_rows (map (record_in c.args.version m.holders a) m.records) m3) arrivals in
     on_ok_weaker c.put_orphans.result

@@ -1,7 +1,11 @@
-use Rattle.std.proofs.Common.{◌≡◌, drop, map}
+use Rattle.std.proofs.Common.{◌≡◌, map}
+use Rattle.cat_table.specs.Left.{items_left}
 use Rattle.cat_tables.specs.Stored.{put_rows, provider_row}
 use Rattle.cat_tables.proofs.stored.put_providers.Given as goal
 
 -- the rows that are left make of the rows so far what all make of those at the start
 abbrev pub invariant-loop-name : goal.invariant-loop-name
-invariant-loop-name l = put_rows (map provider_row (drop l.name-index l.providers)) l.made ≡ put_rows (map provider_row l.providers) l.initial.made
+invariant-loop-name l =
+    goal.iterator-loop-name.can_next l.name-iterator
+    × goal.iterator-loop-name.is_finite l.name-iterator
+    × (put_rows (map provider_row (items_left l.name-iterator)) l.made ≡ put_rows (map provider_row l.providers) l.initial.made)
