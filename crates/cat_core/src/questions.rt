@@ -1,12 +1,9 @@
 //! What is asked of a state.
-ghost use Rattle.std.specs.Prelude.{◌≡◌, IfOk, IsTrue, length, option_map};
-ghost use Rattle.std.specs.declared.option.Option.TheVariants.{Some};
+ghost use Rattle.std.specs.Prelude.{◌≡◌, IfOk, IsTrue, option_map};
 ghost use Rattle.std.specs.FinMap.Entries.{is_sorted};
-ghost use Rattle.std.specs.List.{filter};
 ghost use Rattle.cat_table.specs.Table.{text_cmp};
 ghost use Rattle.cat_frame.specs.Linked.{AreLinked, AreRecorded};
-ghost use Rattle.cat_model.specs.Reply.{is_leased, is_live, is_quiet, issues_at, next_mark, next_stitch, placed, resting, state_counts};
-ghost use Rattle.cat_model.specs.Settle.{is_due};
+ghost use Rattle.cat_model.specs.Reply.{is_quiet, issues_at, next_mark, next_stitch, placed, resting, state_counts};
 ghost use Rattle.cat_model.specs.Sound.{its_number};
 
 use cat_events::done::Stitched;
@@ -14,10 +11,8 @@ use cat_events::present::present_stitch;
 use cat_frame::parts::present_parts;
 use cat_hold::layers::Layers;
 use cat_links::links::Links;
-use cat_model::records::Records;
-use cat_model::types::{Lease, Placed, State, StateCounts, StitchOrder};
+use cat_model::types::{Placed, State, StateCounts, StitchOrder};
 use cat_ref::reference::Ref;
-use cat_settle::order::due;
 use cat_table::listing::{Copied, Listing};
 use cat_types::issue::Issue;
 use std::alloc::{AllocError, Global};
@@ -29,55 +24,16 @@ pub(crate) fn is_quiet(m: &State, now: u64) -> bool
     m.records.is_none_due(now) && m.marks.len() == 0
 }
 
-// How many of these records are due.
-fn count_due(records: &Records, now: u64) -> u64
-    ensures { result ≡ length (filter (λ e. is_due now (Some e.1)) records.now) }
-{
-    let _most = records.len();
-    let mut count = 0;
-    for (_, kept) in records.iter() {
-        if due(now, Some(kept)) {
-            count += 1;
-        }
-    }
-    count
-}
-
-fn live(now: u64, lease: &Option<Lease>) -> bool
-    ensures { result ≡ is_live now lease.now }
-{
-    match lease {
-        None => false,
-        Some(lease) => now < lease.expires,
-    }
-}
-
-// How many of these records have a live lease.
-fn count_leased(records: &Records, now: u64) -> u64
-    ensures { result ≡ length (filter (λ e. is_leased now (Some e.1)) records.now) }
-{
-    let _most = records.len();
-    let mut count = 0;
-    for (_, kept) in records.iter() {
-        if live(now, &kept.lease) {
-            count += 1;
-        }
-    }
-    count
-}
-
 /// How many records, orphans, due records, live leases and marks there are.
 pub(crate) fn counts_of(m: &State, now: u64) -> StateCounts
     requires { IsTrue (is_sorted text_cmp m.now.records) }
     ensures { result ≡ state_counts m.now now }
 {
-    let due = count_due(&m.records, now);
-    let leased = count_leased(&m.records, now);
     StateCounts {
         records: m.records.len() as u64,
         orphans: m.orphans.len() as u64,
-        due,
-        leased,
+        due: m.records.count_due(now) as u64,
+        leased: m.records.count_leased(now) as u64,
         marked: m.marks.len() as u64,
     }
 }

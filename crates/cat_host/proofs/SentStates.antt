@@ -126,7 +126,7 @@ orphan_sync = search known depth 60
 records_send : IsSend Records.the_row
 records_send = view_send _ _ _ _ _ (declared_send recorded.the_type (
   search (Owned-send, record_send, known) depth 60,
-  (search (Owned-send, entry_send, known) depth 60, tt),
+  (search (Owned-send, entry_send, known) depth 60, (search (Owned-send, entry_send, known) depth 60, tt)),
 ))
 
 pub state_send : IsSend State.the_row

@@ -41,21 +41,22 @@ impl Model for Marks {
     ghost invariant = { λ a. IsIndexed a.marks a.by_ticket };
 }
 
-// Stands for the first key that a mark with a ticket above this one may have.
+/// Stands in a search for the first key whose number may be above this one: it comes behind all keys with this number or a lower
+/// one, and before all others.
 #[derive(Drop)]
-struct Above {
-    ticket: u64,
+pub struct Above {
+    pub number: u64,
 }
 
 impl Seek<(u64, Ref)> for Above {
-    ghost sought = { λ a. (a.ticket + 1, []) };
+    ghost sought = { λ a. (a.number + 1, []) };
 
     fn compare_with(&self, other: &(u64, Ref)) -> Ordering {
-        if other.0 <= self.ticket {
+        if other.0 <= self.number {
             return Ordering::Greater;
         }
         let below = other.0 - 1;
-        match self.ticket.cmp(&below) {
+        match self.number.cmp(&below) {
             Ordering::Equal => "".cmp(other.1.as_str()),
             unequal => unequal,
         }
@@ -201,7 +202,7 @@ impl Marks {
     {
         self.marks.in_order();
         self.by_ticket.in_order();
-        let place = self.by_ticket.seek_place(&Above { ticket: after });
+        let place = self.by_ticket.seek_place(&Above { number: after });
         match self.by_ticket.at(place) {
             Some(entry) => Some((&entry.0.1, entry.0.0)),
             None => None,

@@ -15,7 +15,7 @@ use Rattle.cat_table.specs.Table.{Map, Text, find, get, keys, text_cmp}
 use Rattle.cat_table.proofs.Orders.{has-filter, in_order_is, keys_rise}
 use Rattle.cat_table.proofs.Tables.{and_second, or_true, same_is, same_self, text_antisymmetric, text_total}
 use Rattle.cat_marks.proofs.Least.{le_from, le_not, not_higher, same_some}
-use Rattle.cat_model.specs.Dues.{AreDues, Dues, due_cmp, is_due, is_due_from, refs_due, refs_until}
+use Rattle.cat_model.specs.Dues.{AreMoments, Moments, due_of, is_at, is_due, moment_cmp, refs_due, refs_until}
 use Rattle.cat_model.specs.declared.types.Record.{Record}
 use Rattle.cat_model.proofs.Dues.{listed}
 use Rattle.cat_model.proofs.Soonest.{above, also, at_hand, lt_yes}
@@ -29,12 +29,12 @@ not_lt x y h = grind (arith, nat_tests)
 
 module _ (now : ℕ) (es : Map Record) where
   -- a moment up to the present one is passed, and its reference with it
-  passed : (ds : Dues) (u : ℕ) (q : Text) → is_sorted due_cmp ds ≡ true → is_some (find due_cmp (u, q) ds) ≡ true → u ≤ now → list_any (eq_by_cmp text_cmp q) (refs_until now ds) ≡ true
+  passed : (ds : Moments) (u : ℕ) (q : Text) → is_sorted moment_cmp ds ≡ true → is_some (find moment_cmp (u, q) ds) ≡ true → u ≤ now → list_any (eq_by_cmp text_cmp q) (refs_until now ds) ≡ true
   passed [] u q h f l = absurd (true≢false (sym f))
   passed (d ∷ ds) u q h f l = go (nat_lt now d.0.0) refl (above now es d ds u q h f) (λ g. passed ds u q (and_second _ _ h) g l)
     where
-      go : (b : Bool) → nat_lt now d.0.0 ≡ b → (((u, q) ≡ d.0) ⊎ (is_some (find due_cmp (u, q) ds) ≡ true)) × (is_gt (due_cmp d.0 (u, q)) ≡ false)
-          → (is_some (find due_cmp (u, q) ds) ≡ true → list_any (eq_by_cmp text_cmp q) (refs_until now ds) ≡ true)
+      go : (b : Bool) → nat_lt now d.0.0 ≡ b → (((u, q) ≡ d.0) ⊎ (is_some (find moment_cmp (u, q) ds) ≡ true)) × (is_gt (moment_cmp d.0 (u, q)) ≡ false)
+          → (is_some (find moment_cmp (u, q) ds) ≡ true → list_any (eq_by_cmp text_cmp q) (refs_until now ds) ≡ true)
           → list_any (eq_by_cmp text_cmp q) (cond b [] (d.0.1 ∷ refs_until now ds)) ≡ true
       go true n a ih =
           let low : d.0.0 ≤ u = not_higher d.0.0 u d.0.1 q a.1 in
@@ -44,10 +44,10 @@ module _ (now : ℕ) (es : Map Record) where
       go false n (inr g, a) ih = or_true (eq_by_cmp text_cmp q d.0.1) (list_any (eq_by_cmp text_cmp q) (refs_until now ds)) (ih g)
 
   -- a reference that is passed has a moment up to the present one
-  abbrev IsPassed : Dues → Text → Type 0
-  IsPassed ds q = (u : ℕ) × ((u ≤ now) × (is_some (find due_cmp (u, q) ds) ≡ true))
+  abbrev IsPassed : Moments → Text → Type 0
+  IsPassed ds q = (u : ℕ) × ((u ≤ now) × (is_some (find moment_cmp (u, q) ds) ≡ true))
 
-  was_passed : (ds : Dues) (q : Text) → list_any (eq_by_cmp text_cmp q) (refs_until now ds) ≡ true → IsPassed ds q
+  was_passed : (ds : Moments) (q : Text) → list_any (eq_by_cmp text_cmp q) (refs_until now ds) ≡ true → IsPassed ds q
   was_passed [] q h = absurd (true≢false (sym h))
   was_passed (d ∷ ds) q h = go (nat_lt now d.0.0) refl h (was_passed ds q)
     where
@@ -55,7 +55,7 @@ module _ (now : ℕ) (es : Map Record) where
           → (list_any (eq_by_cmp text_cmp q) (refs_until now ds) ≡ true → IsPassed ds q) → IsPassed (d ∷ ds) q
       pick true e n h ih =
           let is : q ≡ d.0.1 = same_is text_total text_antisymmetric q d.0.1 e in
-          (d.0.0, (not_lt now d.0.0 n, subst (λ (r : Text). is_some (find due_cmp (d.0.0, r) (d ∷ ds)) ≡ true) (sym is) (at_hand now es d ds)))
+          (d.0.0, (not_lt now d.0.0 n, subst (λ (r : Text). is_some (find moment_cmp (d.0.0, r) (d ∷ ds)) ≡ true) (sym is) (at_hand now es d ds)))
       pick false e n h ih =
           let rest = ih h in
           (rest.0, (rest.1.0, also now es d ds rest.0 q rest.1.1))
@@ -65,19 +65,19 @@ module _ (now : ℕ) (es : Map Record) where
       go true n h ih = absurd (true≢false (sym h))
       go false n h ih = pick (eq_by_cmp text_cmp q d.0.1) refl n h ih
 
-  module _ (ds : Dues) (rise : is_sorted text_cmp es ≡ true) (up : is_sorted due_cmp ds ≡ true) (i : AreDues es ds) where
+  module _ (ds : Moments) (rise : is_sorted text_cmp es ≡ true) (up : is_sorted moment_cmp ds ≡ true) (i : AreMoments due_of es ds) where
     -- a reference is passed exactly where its record is due
     same_ref : (q : Text) → list_any (eq_by_cmp text_cmp q) (refs_due now es) ≡ list_any (eq_by_cmp text_cmp q) (refs_until now ds)
     same_ref q =
         has-filter text_total text_antisymmetric (λ r. is_due now (get es r)) q (keys es)
         ∙ (ap (λ b. is_due now (get es q) && b) (sym (is_some-find text_cmp q es)) ∙ go (get es q) refl)
       where
-        none : (b : Bool) → list_any (eq_by_cmp text_cmp q) (refs_until now ds) ≡ b → (v : Option Record) → get es q ≡ v → ((u : ℕ) → u ≤ now → is_due_from u v ≡ true → b ≡ false) → b ≡ false
-        none true e v g fails = let p = was_passed ds q e in fails p.0 p.1.0 (ap (is_due_from p.0) (sym g) ∙ (sym (i.same p.0 q) ∙ p.1.1))
+        none : (b : Bool) → list_any (eq_by_cmp text_cmp q) (refs_until now ds) ≡ b → (v : Option Record) → get es q ≡ v → ((u : ℕ) → u ≤ now → is_at due_of u v ≡ true → b ≡ false) → b ≡ false
+        none true e v g fails = let p = was_passed ds q e in fails p.0 p.1.0 (ap (is_at due_of p.0) (sym g) ∙ (sym (i.same p.0 q) ∙ p.1.1))
         none false e v g fails = refl
 
         some : (x : Record) → get es q ≡ Some x → (b : Bool) → nat_le x.due now ≡ b → (b && true) ≡ list_any (eq_by_cmp text_cmp q) (refs_until now ds)
-        some x g true l = sym (passed ds x.due q up (listed es ds rise up i q x g) (le_from x.due now l))
+        some x g true l = sym (passed ds x.due q up (listed due_of es ds rise up i q x g) (le_from x.due now l))
         some x g false l =
             sym (none (list_any (eq_by_cmp text_cmp q) (refs_until now ds)) refl (Some x) g
             (λ u m e.
@@ -119,11 +119,11 @@ module _ (now : ℕ) (es : Map Record) where
 
 -- ---- the first of the moments
 
-pub first_of_none : (now : ℕ) (ds : Dues) → None ≡ slice_get ds 0 → true ≡ nat_eq (length (refs_until now ds)) 0
+pub first_of_none : (now : ℕ) (ds : Moments) → None ≡ slice_get ds 0 → true ≡ nat_eq (length (refs_until now ds)) 0
 first_of_none now [] e = refl
 first_of_none now (d ∷ ds) e = absurd (true≢false (sym (ap is_some e)))
 
-pub first_of_some : (now : ℕ) (ds : Dues) (d : (ℕ × Text) × Unit {0}) → Some d ≡ slice_get ds 0 → nat_lt now d.0.0 ≡ nat_eq (length (refs_until now ds)) 0
+pub first_of_some : (now : ℕ) (ds : Moments) (d : (ℕ × Text) × Unit {0}) → Some d ≡ slice_get ds 0 → nat_lt now d.0.0 ≡ nat_eq (length (refs_until now ds)) 0
 first_of_some now [] d e = absurd (true≢false (ap is_some e))
 first_of_some now (x ∷ ds) d e = ap (λ (y : (ℕ × Text) × Unit {0}). nat_lt now y.0.0) (same_some d x e) ∙ go (nat_lt now x.0.0)
   where

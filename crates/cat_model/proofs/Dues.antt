@@ -1,5 +1,5 @@
 -- The moments of records of which one is put or taken away.
-use Rattle.std.proofs.Common.{T, ◌≡◌, ℕ, ◌+◌, ◌≤◌, ◌<◌, arith, Bool, true, false, cond, not, ◌&&◌, List, [], ◌∷◌, length, refl, sym, ap, subst, ◌∙◌, true≢false, Ordering, nat_cmp, is_some, option_map, unwrap_or}
+use Rattle.std.proofs.Common.{T, ◌≡◌, ℕ, ◌+◌, ◌≤◌, arith, Bool, true, false, cond, not, ◌&&◌, List, [], length, refl, sym, ap, subst, ◌∙◌, true≢false, Ordering, nat_cmp, is_some, option_map, unwrap_or}
 use Rattle.std.specs.declared.option.Option.{Option}
 use Rattle.std.specs.declared.option.Option.TheVariants.{None, Some}
 use Rattle.std.specs.Ordering.{eq_by_cmp}
@@ -9,8 +9,8 @@ use Rattle.std.specs.FinMap.Entries.{find-put, is_sorted, is_sorted-put, is_sort
 use Rattle.cat_table.specs.Rows.{without}
 use Rattle.cat_table.specs.Table.{Map, Text, find, get, put, same_text, text_cmp}
 use Rattle.cat_table.proofs.Tables.{same_is, same_self, text_antisymmetric, text_total}
-use Rattle.cat_marks.proofs.Indexed.{find-without, same_ticket, ticket_antisymmetric, ticket_total, turned_number, turned_text}
-use Rattle.cat_model.specs.Dues.{AreDues, Dues, due_cmp, is_due_from, rerecorded_at}
+use Rattle.cat_marks.proofs.Indexed.{find-without, same_ticket, ticket_antisymmetric, ticket_total, turned_number}
+use Rattle.cat_model.specs.Dues.{AreMoments, Moments, is_at, moment_cmp, rerecorded_at}
 use Rattle.cat_model.specs.declared.types.Lease.{Lease}
 use Rattle.cat_model.specs.declared.types.Record.{Record}
 
@@ -22,7 +22,7 @@ from_T : (b : Bool) → T b → b ≡ true
 from_T true h = refl
 from_T false h = absurd h
 
-turned : {K : Type 0} {R : K → K → Ordering} → IsTotalOrder R → (k q : K) → eq_by_cmp R k q ≡ eq_by_cmp R q k
+pub turned : {K : Type 0} {R : K → K → Ordering} → IsTotalOrder R → (k q : K) → eq_by_cmp R k q ≡ eq_by_cmp R q k
 turned o k q = let e = eq_by_cmp_equiv o in e.symm k q
 
 module _ {K X : Type 0} {R : K → K → Ordering} (o : IsTotalOrder R) (s : IsAntisymmetric R) where
@@ -81,62 +81,6 @@ some_of : {X : Type 0} (v : Option X) → is_some v ≡ true → (x : X) × (v �
 some_of None h = absurd (true≢false (sym h))
 some_of (Some x) h = (x, refl)
 
-module _ (m : Map Record) (d : Dues) (rise : is_sorted text_cmp m ≡ true) (up : is_sorted due_cmp d ≡ true) (i : AreDues m d) where
-  -- the moment of a record stands with its reference
-  pub listed : (k : Text) (x : Record) → get m k ≡ Some x → is_some (find due_cmp (x.due, k) d) ≡ true
-  listed k x e = i.same x.due k ∙ (ap (is_due_from x.due) e ∙ same_self nat_cmp_total nat_cmp-IsAntisymmetric x.due)
-
-  -- without a record, and without its moment
-  pub less : (k : Text) (x : Record) → get m k ≡ Some x → AreDues (without text_cmp k m) (without due_cmp (x.due, k) d)
-  less k x e = record {
-    same = λ t r. ap is_some (find-without ticket_antisymmetric (x.due, k) (t, r) d)
-        ∙ (ap (λ b. is_some (cond (not b) (find due_cmp (t, r) d) None)) (same_ticket x.due t k r)
-        ∙ (go t r (eq_by_cmp nat_cmp x.due t) refl (same_text k r) refl ∙ sym (ap (is_due_from t) (find-without text_antisymmetric k r m))));
-    count =
-        let there = some_of (find due_cmp (x.due, k) d) (listed k x e) in
-        omega (arith, i.count, count_without ticket_total ticket_antisymmetric (x.due, k) there.0 d up there.1, count_without text_total text_antisymmetric k x m rise e);
-  }
-    where
-      go : (t : ℕ) (r : Text) (b : Bool) → eq_by_cmp nat_cmp x.due t ≡ b → (c : Bool) → same_text k r ≡ c
-          → is_some (cond (not (b && c)) (find due_cmp (t, r) d) None) ≡ is_due_from t (cond (not c) (get m r) None)
-      go t r true n true s = refl
-      go t r true n false s = i.same t r
-      go t r false n false s = i.same t r
-      go t r false n true s = i.same t r ∙ (ap (is_due_from t) (ap (get m) (sym (same_is text_total text_antisymmetric k r s)) ∙ e) ∙ (turned_number t x.due ∙ n))
-
-  -- with a record that wasn't there, and with its moment
-  pub more : (k : Text) (x : Record) → get m k ≡ None → AreDues (put text_cmp k x m) (put due_cmp (x.due, k) (tt {0}) d)
-  more k x e = record {
-    same = λ t r. ap is_some (find-put due_cmp ticket_total (t, r) (x.due, k) (tt {0}) d)
-        ∙ (ap (λ b. is_some (cond b (Some (tt {0})) (find due_cmp (t, r) d))) (same_ticket t x.due r k)
-        ∙ (go t r (eq_by_cmp nat_cmp t x.due) refl (same_text r k) refl ∙ sym (ap (is_due_from t) (find-put text_cmp text_total r k x m))));
-    count = omega (arith, i.count, count_put ticket_total ticket_antisymmetric (x.due, k) (tt {0}) d up (none_of _ (i.same x.due k ∙ ap (is_due_from x.due) e)), count_put text_total text_antisymmetric k x m rise e);
-  }
-    where
-      go : (t : ℕ) (r : Text) (b : Bool) → eq_by_cmp nat_cmp t x.due ≡ b → (c : Bool) → same_text r k ≡ c
-          → is_some (cond (b && c) (Some (tt {0})) (find due_cmp (t, r) d)) ≡ is_due_from t (cond c (Some x) (get m r))
-      go t r true n true s = sym n
-      go t r true n false s = i.same t r
-      go t r false n false s = i.same t r
-      go t r false n true s = i.same t r ∙ (ap (is_due_from t) (ap (get m) (same_is text_total text_antisymmetric r k s) ∙ e) ∙ sym n)
-
--- with another record in place of one
-pub other : (m : Map Record) (d : Dues) → is_sorted text_cmp m ≡ true → is_sorted due_cmp d ≡ true → AreDues m d → (k : Text) (x y : Record) → get m k ≡ Some x
-    → AreDues (put text_cmp k y m) (put due_cmp (y.due, k) (tt {0}) (without due_cmp (x.due, k) d))
-other m d rise up i k x y e =
-    subst (λ (n : Map Record). AreDues n (put due_cmp (y.due, k) (tt {0}) (without due_cmp (x.due, k) d))) (put_again text_total text_antisymmetric k y m rise)
-    (more (without text_cmp k m) (without due_cmp (x.due, k) d) (without_sorted text_total text_antisymmetric k m rise) (without_sorted ticket_total ticket_antisymmetric (x.due, k) d up) (less m d rise up i k x e) k y
-    (find-without text_antisymmetric k k m ∙ ap (λ b. cond (not b) (get m k) None) (same_self text_total text_antisymmetric k)))
-
--- no records have no moments
-pub none_due : AreDues [] []
-none_due = record { same = λ t r. refl; count = refl }
-
-pub same_dues : (m m' : Map Record) (d d' : Dues) → m' ≡ m → d' ≡ d → AreDues m d → AreDues m' d'
-same_dues m m' d d' e f i = subst (λ x. AreDues x d') (sym e) (subst (λ x. AreDues m x) (sym f) i)
-
--- ---- what the calls make
-
 none_mapped : {A B : Type 0} (f : A → B) (v : Option A) → option_map f v ≡ None → v ≡ None
 none_mapped f None e = refl
 none_mapped f (Some a) e = absurd (true≢false (ap is_some e))
@@ -149,57 +93,115 @@ some_mapped f (Some a) b e = (a, (refl, ap (λ v. unwrap_or v b) e))
 abbrev pub under : Text → Record → Text × Record
 under k y = (k, y)
 
-module _ (m : Map Record) (d : Dues) (rise : is_sorted text_cmp m ≡ true) (up : is_sorted due_cmp d ≡ true) (i : AreDues m d) (k : Text) (v : Option (Text × Record)) (is : v ≡ option_map (under k) (get m k)) where
-  -- where there is none
-  pub absent : v ≡ None → get m k ≡ None
-  absent e = none_mapped (under k) (get m k) (sym is ∙ e)
+-- a moment of each record
+module _ (f : Record → ℕ) where
+  module _ (m : Map Record) (d : Moments) (rise : is_sorted text_cmp m ≡ true) (up : is_sorted moment_cmp d ≡ true) (i : AreMoments f m d) where
+    -- the moment of a record stands with its reference
+    pub listed : (k : Text) (x : Record) → get m k ≡ Some x → is_some (find moment_cmp (f x, k) d) ≡ true
+    listed k x e = i.same (f x) k ∙ (ap (is_at f (f x)) e ∙ same_self nat_cmp_total nat_cmp-IsAntisymmetric (f x))
 
-  -- where there is one
-  present : (f : Text × Record) → v ≡ Some f → (a : Record) × ((get m k ≡ Some a) × ((k, a) ≡ f))
-  present f e = some_mapped (under k) (get m k) f (sym is ∙ e)
+    -- without a record, and without its moment
+    pub less : (k : Text) (x : Record) → get m k ≡ Some x → AreMoments f (without text_cmp k m) (without moment_cmp (f x, k) d)
+    less k x e = record {
+      same = λ t r. ap is_some (find-without ticket_antisymmetric (f x, k) (t, r) d)
+          ∙ (ap (λ b. is_some (cond (not b) (find moment_cmp (t, r) d) None)) (same_ticket (f x) t k r)
+          ∙ (go t r (eq_by_cmp nat_cmp (f x) t) refl (same_text k r) refl ∙ sym (ap (is_at f t) (find-without text_antisymmetric k r m))));
+      count =
+          let there = some_of (find moment_cmp (f x, k) d) (listed k x e) in
+          omega (arith, i.count, count_without ticket_total ticket_antisymmetric (f x, k) there.0 d up there.1, count_without text_total text_antisymmetric k x m rise e);
+    }
+      where
+        go : (t : ℕ) (r : Text) (b : Bool) → eq_by_cmp nat_cmp (f x) t ≡ b → (c : Bool) → same_text k r ≡ c
+            → is_some (cond (not (b && c)) (find moment_cmp (t, r) d) None) ≡ is_at f t (cond (not c) (get m r) None)
+        go t r true n true s = refl
+        go t r true n false s = i.same t r
+        go t r false n false s = i.same t r
+        go t r false n true s = i.same t r ∙ (ap (is_at f t) (ap (get m) (sym (same_is text_total text_antisymmetric k r s)) ∙ e) ∙ (turned_number t (f x) ∙ n))
 
-  pub put_new : v ≡ None → (x : Record) (m' : Map Record) (d' : Dues) → m' ≡ put text_cmp k x m → d' ≡ put due_cmp (x.due, k) (tt {0}) d → AreDues m' d'
-  put_new e x m' d' p q = same_dues (put text_cmp k x m) m' (put due_cmp (x.due, k) (tt {0}) d) d' p q (more m d rise up i k x (absent e))
+    -- with a record that wasn't there, and with its moment
+    pub more : (k : Text) (x : Record) → get m k ≡ None → AreMoments f (put text_cmp k x m) (put moment_cmp (f x, k) (tt {0}) d)
+    more k x e = record {
+      same = λ t r. ap is_some (find-put moment_cmp ticket_total (t, r) (f x, k) (tt {0}) d)
+          ∙ (ap (λ b. is_some (cond b (Some (tt {0})) (find moment_cmp (t, r) d))) (same_ticket t (f x) r k)
+          ∙ (go t r (eq_by_cmp nat_cmp t (f x)) refl (same_text r k) refl ∙ sym (ap (is_at f t) (find-put text_cmp text_total r k x m))));
+      count = omega (arith, i.count, count_put ticket_total ticket_antisymmetric (f x, k) (tt {0}) d up (none_of _ (i.same (f x) k ∙ ap (is_at f (f x)) e)), count_put text_total text_antisymmetric k x m rise e);
+    }
+      where
+        go : (t : ℕ) (r : Text) (b : Bool) → eq_by_cmp nat_cmp t (f x) ≡ b → (c : Bool) → same_text r k ≡ c
+            → is_some (cond (b && c) (Some (tt {0})) (find moment_cmp (t, r) d)) ≡ is_at f t (cond c (Some x) (get m r))
+        go t r true n true s = sym n
+        go t r true n false s = i.same t r
+        go t r false n false s = i.same t r
+        go t r false n true s = i.same t r ∙ (ap (is_at f t) (ap (get m) (same_is text_total text_antisymmetric r k s) ∙ e) ∙ sym n)
 
-  pub put_over : (f : Text × Record) → v ≡ Some f → (x : Record) (m' : Map Record) (d1 d' : Dues) → m' ≡ put text_cmp k x m → d1 ≡ without due_cmp (f.1.due, f.0) d → d' ≡ put due_cmp (x.due, k) (tt {0}) d1 → AreDues m' d'
-  put_over f e x m' d1 d' p q r =
-      let a = present f e in
-      same_dues (put text_cmp k x m) m' (put due_cmp (x.due, k) (tt {0}) (without due_cmp (a.0.due, k) d)) d' p
-      (r ∙ ap (put due_cmp (x.due, k) (tt {0})) (q ∙ ap (λ (g : Text × Record). without due_cmp (g.1.due, g.0) d) (sym a.1.1)))
-      (other m d rise up i k a.0 x a.1.0)
+  -- with another record in place of one
+  pub other : (m : Map Record) (d : Moments) → is_sorted text_cmp m ≡ true → is_sorted moment_cmp d ≡ true → AreMoments f m d → (k : Text) (x y : Record) → get m k ≡ Some x
+      → AreMoments f (put text_cmp k y m) (put moment_cmp (f y, k) (tt {0}) (without moment_cmp (f x, k) d))
+  other m d rise up i k x y e =
+      subst (λ (n : Map Record). AreMoments f n (put moment_cmp (f y, k) (tt {0}) (without moment_cmp (f x, k) d))) (put_again text_total text_antisymmetric k y m rise)
+      (more (without text_cmp k m) (without moment_cmp (f x, k) d) (without_sorted text_total text_antisymmetric k m rise) (without_sorted ticket_total ticket_antisymmetric (f x, k) d up) (less m d rise up i k x e) k y
+      (find-without text_antisymmetric k k m ∙ ap (λ b. cond (not b) (get m k) None) (same_self text_total text_antisymmetric k)))
 
-  pub taken_out : (f : Text × Record) → v ≡ Some f → (m' : Map Record) (d' : Dues) → m' ≡ without text_cmp k m → d' ≡ without due_cmp (f.1.due, k) d → AreDues m' d'
-  taken_out f e m' d' p q =
-      let a = present f e in
-      same_dues (without text_cmp k m) m' (without due_cmp (a.0.due, k) d) d' p (q ∙ ap (λ (g : Text × Record). without due_cmp (g.1.due, k) d) (sym a.1.1)) (less m d rise up i k a.0 a.1.0)
+  -- no records have no moments
+  pub no_moments : AreMoments f [] []
+  no_moments = record { same = λ t r. refl; count = refl }
 
-  pub none_taken : v ≡ None → (m' : Map Record) → m' ≡ without text_cmp k m → m' ≡ m
-  none_taken e m' p = p ∙ none_without text_total text_antisymmetric k m rise (absent e)
+  pub same_moments : (m m' : Map Record) (d d' : Moments) → m' ≡ m → d' ≡ d → AreMoments f m d → AreMoments f m' d'
+  same_moments m m' d d' e h i = subst (λ x. AreMoments f x d') (sym e) (subst (λ x. AreMoments f m x) (sym h) i)
 
-  pub none_out : v ≡ None → (m' : Map Record) → m' ≡ without text_cmp k m → AreDues m' d
-  none_out e m' p = subst (λ (x : Map Record). AreDues x d) (sym (none_taken e m' p)) i
+  -- ---- what the calls make
 
-  -- taken out, and put back as another
-  pub put_back : (f : Text × Record) → v ≡ Some f → (y : Record) (m1 m' : Map Record) → m1 ≡ without text_cmp k m → m' ≡ put text_cmp f.0 y m1 → m' ≡ put text_cmp k y m
-  put_back f e y m1 m' p q =
-      let a = present f e in
-      q ∙ (ap (λ (g : Text × Record). put text_cmp g.0 y m1) (sym a.1.1) ∙ (ap (put text_cmp k y) p ∙ put_again text_total text_antisymmetric k y m rise))
+  module _ (m : Map Record) (d : Moments) (rise : is_sorted text_cmp m ≡ true) (up : is_sorted moment_cmp d ≡ true) (i : AreMoments f m d) (k : Text) (v : Option (Text × Record)) (is : v ≡ option_map (under k) (get m k)) where
+    -- where there is none
+    pub absent : v ≡ None → get m k ≡ None
+    absent e = none_mapped (under k) (get m k) (sym is ∙ e)
 
-  pub renewed : (f : Text × Record) → v ≡ Some f → (y : Record) (m1 m' : Map Record) (d' : Dues) → m1 ≡ without text_cmp k m → m' ≡ put text_cmp f.0 y m1
-      → d' ≡ put due_cmp (y.due, f.0) (tt {0}) (without due_cmp (f.1.due, f.0) d) → AreDues m' d'
-  renewed f e y m1 m' d' p q r =
-      let a = present f e in
-      same_dues (put text_cmp k y m) m' (put due_cmp (y.due, k) (tt {0}) (without due_cmp (a.0.due, k) d)) d' (put_back f e y m1 m' p q)
-      (r ∙ ap (λ (g : Text × Record). put due_cmp (y.due, g.0) (tt {0}) (without due_cmp (g.1.due, g.0) d)) (sym a.1.1))
-      (other m d rise up i k a.0 y a.1.0)
+    -- where there is one
+    present : (was : Text × Record) → v ≡ Some was → (a : Record) × ((get m k ≡ Some a) × ((k, a) ≡ was))
+    present was e = some_mapped (under k) (get m k) was (sym is ∙ e)
 
-  pub renewed_is : (f : Text × Record) → v ≡ Some f → (due : Option ℕ) (lease : Option Lease) (y : Record) → y ≡ record f.1 { due = unwrap_or due f.1.due; lease = lease } → (m1 m' : Map Record)
-      → m1 ≡ without text_cmp k m → m' ≡ put text_cmp f.0 y m1 → m' ≡ rerecorded_at k due lease (get m k) m
-  renewed_is f e due lease y w m1 m' p q =
-      let a = present f e in
-      put_back f e y m1 m' p q
-      ∙ (ap (λ z. put text_cmp k z m) (w ∙ ap (λ (g : Text × Record). record g.1 { due = unwrap_or due g.1.due; lease = lease }) (sym a.1.1))
-      ∙ ap (λ o. rerecorded_at k due lease o m) (sym a.1.0))
+    pub put_new : v ≡ None → (x : Record) (m' : Map Record) (d' : Moments) → m' ≡ put text_cmp k x m → d' ≡ put moment_cmp (f x, k) (tt {0}) d → AreMoments f m' d'
+    put_new e x m' d' p q = same_moments (put text_cmp k x m) m' (put moment_cmp (f x, k) (tt {0}) d) d' p q (more m d rise up i k x (absent e))
 
-  pub none_renewed : v ≡ None → (due : Option ℕ) (lease : Option Lease) (m' : Map Record) → m' ≡ without text_cmp k m → m' ≡ rerecorded_at k due lease (get m k) m
-  none_renewed e due lease m' p = none_taken e m' p ∙ ap (λ o. rerecorded_at k due lease o m) (sym (absent e))
+    pub put_over : (was : Text × Record) → v ≡ Some was → (x : Record) (m' : Map Record) (d1 d' : Moments) → m' ≡ put text_cmp k x m → d1 ≡ without moment_cmp (f was.1, was.0) d → d' ≡ put moment_cmp (f x, k) (tt {0}) d1 → AreMoments f m' d'
+    put_over was e x m' d1 d' p q r =
+        let a = present was e in
+        same_moments (put text_cmp k x m) m' (put moment_cmp (f x, k) (tt {0}) (without moment_cmp (f a.0, k) d)) d' p
+        (r ∙ ap (put moment_cmp (f x, k) (tt {0})) (q ∙ ap (λ (g : Text × Record). without moment_cmp (f g.1, g.0) d) (sym a.1.1)))
+        (other m d rise up i k a.0 x a.1.0)
+
+    pub taken_out : (was : Text × Record) → v ≡ Some was → (m' : Map Record) (d' : Moments) → m' ≡ without text_cmp k m → d' ≡ without moment_cmp (f was.1, k) d → AreMoments f m' d'
+    taken_out was e m' d' p q =
+        let a = present was e in
+        same_moments (without text_cmp k m) m' (without moment_cmp (f a.0, k) d) d' p (q ∙ ap (λ (g : Text × Record). without moment_cmp (f g.1, k) d) (sym a.1.1)) (less m d rise up i k a.0 a.1.0)
+
+    pub none_taken : v ≡ None → (m' : Map Record) → m' ≡ without text_cmp k m → m' ≡ m
+    none_taken e m' p = p ∙ none_without text_total text_antisymmetric k m rise (absent e)
+
+    pub none_out : v ≡ None → (m' : Map Record) → m' ≡ without text_cmp k m → AreMoments f m' d
+    none_out e m' p = subst (λ (x : Map Record). AreMoments f x d) (sym (none_taken e m' p)) i
+
+    -- taken out, and put back as another
+    pub put_back : (was : Text × Record) → v ≡ Some was → (y : Record) (m1 m' : Map Record) → m1 ≡ without text_cmp k m → m' ≡ put text_cmp was.0 y m1 → m' ≡ put text_cmp k y m
+    put_back was e y m1 m' p q =
+        let a = present was e in
+        q ∙ (ap (λ (g : Text × Record). put text_cmp g.0 y m1) (sym a.1.1) ∙ (ap (put text_cmp k y) p ∙ put_again text_total text_antisymmetric k y m rise))
+
+    pub renewed : (was : Text × Record) → v ≡ Some was → (y : Record) (m1 m' : Map Record) (d' : Moments) → m1 ≡ without text_cmp k m → m' ≡ put text_cmp was.0 y m1
+        → d' ≡ put moment_cmp (f y, was.0) (tt {0}) (without moment_cmp (f was.1, was.0) d) → AreMoments f m' d'
+    renewed was e y m1 m' d' p q r =
+        let a = present was e in
+        same_moments (put text_cmp k y m) m' (put moment_cmp (f y, k) (tt {0}) (without moment_cmp (f a.0, k) d)) d' (put_back was e y m1 m' p q)
+        (r ∙ ap (λ (g : Text × Record). put moment_cmp (f y, g.0) (tt {0}) (without moment_cmp (f g.1, g.0) d)) (sym a.1.1))
+        (other m d rise up i k a.0 y a.1.0)
+
+    pub renewed_is : (was : Text × Record) → v ≡ Some was → (due : Option ℕ) (lease : Option Lease) (y : Record) → y ≡ record was.1 { due = unwrap_or due was.1.due; lease = lease } → (m1 m' : Map Record)
+        → m1 ≡ without text_cmp k m → m' ≡ put text_cmp was.0 y m1 → m' ≡ rerecorded_at k due lease (get m k) m
+    renewed_is was e due lease y w m1 m' p q =
+        let a = present was e in
+        put_back was e y m1 m' p q
+        ∙ (ap (λ z. put text_cmp k z m) (w ∙ ap (λ (g : Text × Record). record g.1 { due = unwrap_or due g.1.due; lease = lease }) (sym a.1.1))
+        ∙ ap (λ o. rerecorded_at k due lease o m) (sym a.1.0))
+
+    pub none_renewed : v ≡ None → (due : Option ℕ) (lease : Option Lease) (m' : Map Record) → m' ≡ without text_cmp k m → m' ≡ rerecorded_at k due lease (get m k) m
+    none_renewed e due lease m' p = none_taken e m' p ∙ ap (λ o. rerecorded_at k due lease o m) (sym (absent e))

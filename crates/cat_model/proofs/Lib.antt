@@ -3,3 +3,4 @@ pub mod Dues
 pub mod Soonest
 pub mod DueNow
 pub mod Named
+pub mod Counted

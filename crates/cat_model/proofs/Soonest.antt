@@ -12,7 +12,7 @@ use Rattle.cat_table.specs.Table.{Map, Text, find, get, text_cmp}
 use Rattle.cat_table.proofs.Tables.{and_first, and_second, same_is, same_self, text_total, text_antisymmetric}
 use Rattle.cat_marks.proofs.Indexed.{ticket_antisymmetric, ticket_total}
 use Rattle.cat_marks.proofs.Least.{below_found, equally_low, le_from, le_not, level, lower, not_higher, same_some, some_none, two_numbers}
-use Rattle.cat_model.specs.Dues.{AreDues, Dues, due_cmp, first_taken, is_due_from, is_free, may_take, sooner, soonest}
+use Rattle.cat_model.specs.Dues.{AreMoments, Moments, due_of, first_taken, is_at, is_free, may_take, moment_cmp, sooner, soonest}
 use Rattle.cat_model.proofs.Dues.{listed}
 use Rattle.cat_model.specs.declared.types.Record.{Record}
 
@@ -61,13 +61,13 @@ module _ (now : ℕ) where
 
   -- and no record that may be taken is due before, or at once with it under a lower reference
   abbrev Soonest : Option (Text × Record) → ℕ → Text → Type 0
-  Soonest v u q = (e : Text × Record) × ((v ≡ Some e) × (is_gt (due_cmp (e.1.due, e.0) (u, q)) ≡ false))
+  Soonest v u q = (e : Text × Record) × ((v ≡ Some e) × (is_gt (moment_cmp (e.1.due, e.0) (u, q)) ≡ false))
 
   pub soonest_first : (es : Map Record) (q : Text) (y : Record) → is_sorted text_cmp es ≡ true → get es q ≡ Some y → may_take now (Some y) ≡ true → Soonest (soonest now es) y.due q
   soonest_first [] q y h f a = absurd (true≢false (sym (ap is_some f)))
   soonest_first (x ∷ es) q y h f a = go (eq_by_cmp text_cmp q x.0) refl f (λ g. soonest_first es q y (and_second _ _ h) g a)
     where
-      here : x.0 ≡ q → x.1 ≡ y → is_gt (due_cmp (x.1.due, x.0) (y.due, q)) ≡ false
+      here : x.0 ≡ q → x.1 ≡ y → is_gt (moment_cmp (x.1.due, x.0) (y.due, q)) ≡ false
       here e f = equally_low x.1.due y.due x.0 q (ap (λ (r : Record). r.due) f) (ap (λ r. is_gt (text_cmp r q)) e ∙ ap is_gt (tied_itself text_total q))
 
       -- where the entry at hand is the one asked of
@@ -89,7 +89,7 @@ module _ (now : ℕ) where
           most : d.0.1.due ≤ y.due
           most = not_higher d.0.1.due y.due d.0.0 q d.1.1
 
-          near : (x.1.due < y.due) ⊎ ((x.1.due ≡ y.due) ⊎ (y.due < x.1.due)) → x.1.due ≤ d.0.1.due → is_gt (due_cmp (x.1.due, x.0) (y.due, q)) ≡ false
+          near : (x.1.due < y.due) ⊎ ((x.1.due ≡ y.due) ⊎ (y.due < x.1.due)) → x.1.due ≤ d.0.1.due → is_gt (moment_cmp (x.1.due, x.0) (y.due, q)) ≡ false
           near (inl k) l = lower x.1.due y.due x.0 q k
           near (inr (inl k)) l = equally_low x.1.due y.due x.0 q k below
           near (inr (inr k)) l = let m = most in absurd (omega arith)
@@ -114,35 +114,35 @@ module _ (now : ℕ) where
 
   module _ (es : Map Record) where
     -- each moment is that of a record
-    abbrev AreOf : Dues → Type 0
-    AreOf ds = (t : ℕ) (r : Text) → is_some (find due_cmp (t, r) ds) ≡ true → (x : Record) × ((get es r ≡ Some x) × (x.due ≡ t))
+    abbrev AreOf : Moments → Type 0
+    AreOf ds = (t : ℕ) (r : Text) → is_some (find moment_cmp (t, r) ds) ≡ true → (x : Record) × ((get es r ≡ Some x) × (x.due ≡ t))
 
-    pub also : (d : (ℕ × Text) × Unit {0}) (ds : Dues) (t : ℕ) (r : Text) → is_some (find due_cmp (t, r) ds) ≡ true → is_some (find due_cmp (t, r) (d ∷ ds)) ≡ true
-    also d ds t r h = go (eq_by_cmp due_cmp (t, r) d.0)
+    pub also : (d : (ℕ × Text) × Unit {0}) (ds : Moments) (t : ℕ) (r : Text) → is_some (find moment_cmp (t, r) ds) ≡ true → is_some (find moment_cmp (t, r) (d ∷ ds)) ≡ true
+    also d ds t r h = go (eq_by_cmp moment_cmp (t, r) d.0)
       where
-        go : (c : Bool) → is_some (cond c (Some d.1) (find due_cmp (t, r) ds)) ≡ true
+        go : (c : Bool) → is_some (cond c (Some d.1) (find moment_cmp (t, r) ds)) ≡ true
         go true = refl
         go false = h
 
-    pub at_hand : (d : (ℕ × Text) × Unit {0}) (ds : Dues) → is_some (find due_cmp (d.0.0, d.0.1) (d ∷ ds)) ≡ true
-    at_hand d ds = ap (λ b. is_some (cond b (Some d.1) (find due_cmp (d.0.0, d.0.1) ds))) (same_self ticket_total ticket_antisymmetric d.0)
+    pub at_hand : (d : (ℕ × Text) × Unit {0}) (ds : Moments) → is_some (find moment_cmp (d.0.0, d.0.1) (d ∷ ds)) ≡ true
+    at_hand d ds = ap (λ b. is_some (cond b (Some d.1) (find moment_cmp (d.0.0, d.0.1) ds))) (same_self ticket_total ticket_antisymmetric d.0)
 
     -- a moment is the one at hand, or above it
-    pub above : (d : (ℕ × Text) × Unit {0}) (ds : Dues) (u : ℕ) (q : Text) → is_sorted due_cmp (d ∷ ds) ≡ true → is_some (find due_cmp (u, q) (d ∷ ds)) ≡ true
-        → (((u, q) ≡ d.0) ⊎ (is_some (find due_cmp (u, q) ds) ≡ true)) × (is_gt (due_cmp d.0 (u, q)) ≡ false)
-    above d ds u q h f = go (eq_by_cmp due_cmp (u, q) d.0) refl f
+    pub above : (d : (ℕ × Text) × Unit {0}) (ds : Moments) (u : ℕ) (q : Text) → is_sorted moment_cmp (d ∷ ds) ≡ true → is_some (find moment_cmp (u, q) (d ∷ ds)) ≡ true
+        → (((u, q) ≡ d.0) ⊎ (is_some (find moment_cmp (u, q) ds) ≡ true)) × (is_gt (moment_cmp d.0 (u, q)) ≡ false)
+    above d ds u q h f = go (eq_by_cmp moment_cmp (u, q) d.0) refl f
       where
-        go : (c : Bool) → eq_by_cmp due_cmp (u, q) d.0 ≡ c → is_some (cond c (Some d.1) (find due_cmp (u, q) ds)) ≡ true
-            → (((u, q) ≡ d.0) ⊎ (is_some (find due_cmp (u, q) ds) ≡ true)) × (is_gt (due_cmp d.0 (u, q)) ≡ false)
-        go true t f = let is : (u, q) ≡ d.0 = same_is ticket_total ticket_antisymmetric (u, q) d.0 t in (inl is, ap (λ x. is_gt (due_cmp d.0 x)) is ∙ ap is_gt (tied_itself ticket_total d.0))
+        go : (c : Bool) → eq_by_cmp moment_cmp (u, q) d.0 ≡ c → is_some (cond c (Some d.1) (find moment_cmp (u, q) ds)) ≡ true
+            → (((u, q) ≡ d.0) ⊎ (is_some (find moment_cmp (u, q) ds) ≡ true)) × (is_gt (moment_cmp d.0 (u, q)) ≡ false)
+        go true t f = let is : (u, q) ≡ d.0 = same_is ticket_total ticket_antisymmetric (u, q) d.0 t in (inl is, ap (λ x. is_gt (moment_cmp d.0 x)) is ∙ ap is_gt (tied_itself ticket_total d.0))
         go false t f = (inr f, ap is_gt (below_found ticket_total ticket_antisymmetric d.0 (u, q) ds (and_first _ _ h) f))
 
     -- the one that is found may be taken, and none below it
-    abbrev IsFirst : Dues → Text → Type 0
+    abbrev IsFirst : Moments → Text → Type 0
     IsFirst ds r = (x : Record) × ((get es r ≡ Some x) × ((may_take now (Some x) ≡ true)
-        × ((u : ℕ) (q : Text) → is_some (find due_cmp (u, q) ds) ≡ true → may_take now (get es q) ≡ true → is_gt (due_cmp (x.due, r) (u, q)) ≡ false)))
+        × ((u : ℕ) (q : Text) → is_some (find moment_cmp (u, q) ds) ≡ true → may_take now (get es q) ≡ true → is_gt (moment_cmp (x.due, r) (u, q)) ≡ false)))
 
-    pub first_found : (ds : Dues) (r : Text) → is_sorted due_cmp ds ≡ true → AreOf ds → first_taken now es ds ≡ Some r → IsFirst ds r
+    pub first_found : (ds : Moments) (r : Text) → is_sorted moment_cmp ds ≡ true → AreOf ds → first_taken now es ds ≡ Some r → IsFirst ds r
     first_found [] r h a e = absurd (true≢false (sym (ap is_some e)))
     first_found (d ∷ ds) r h a e = go (nat_lt now d.0.0) (may_take now (get es d.0.1)) refl e (first_found ds r (and_second _ _ h) (λ t q f. a t q (also d ds t q f)))
       where
@@ -152,25 +152,25 @@ module _ (now : ℕ) where
             let is : d.0.1 ≡ r = same_some d.0.1 r e in
             let of = a d.0.0 d.0.1 (at_hand d ds) in
             subst (IsFirst (d ∷ ds)) is
-            (of.0, (of.1.0, (ap (may_take now) (sym of.1.0) ∙ m, λ u q f t. ap (λ w. is_gt (due_cmp (w, d.0.1) (u, q))) of.1.1 ∙ (above d ds u q h f).1)))
+            (of.0, (of.1.0, (ap (may_take now) (sym of.1.0) ∙ m, λ u q f t. ap (λ w. is_gt (moment_cmp (w, d.0.1) (u, q))) of.1.1 ∙ (above d ds u q h f).1)))
         go false false m e ih =
             let rest = ih e in
             (rest.0, (rest.1.0, (rest.1.1.0, λ u q f t. pick u q t (above d ds u q h f).0 (rest.1.1.1 u q))))
           where
-            pick : {P : Type 0} (u : ℕ) (q : Text) → may_take now (get es q) ≡ true → ((u, q) ≡ d.0) ⊎ (is_some (find due_cmp (u, q) ds) ≡ true) → (is_some (find due_cmp (u, q) ds) ≡ true → may_take now (get es q) ≡ true → P) → P
+            pick : {P : Type 0} (u : ℕ) (q : Text) → may_take now (get es q) ≡ true → ((u, q) ≡ d.0) ⊎ (is_some (find moment_cmp (u, q) ds) ≡ true) → (is_some (find moment_cmp (u, q) ds) ≡ true → may_take now (get es q) ≡ true → P) → P
             pick u q t (inl is) f = absurd (true≢false (sym t ∙ (ap (λ (w : ℕ × Text). may_take now (get es w.1)) is ∙ m)))
             pick u q t (inr g) f = f g t
 
-    pub none_found : (ds : Dues) → is_sorted due_cmp ds ≡ true → AreOf ds → first_taken now es ds ≡ None → (u : ℕ) (q : Text) → is_some (find due_cmp (u, q) ds) ≡ true → may_take now (get es q) ≡ false
+    pub none_found : (ds : Moments) → is_sorted moment_cmp ds ≡ true → AreOf ds → first_taken now es ds ≡ None → (u : ℕ) (q : Text) → is_some (find moment_cmp (u, q) ds) ≡ true → may_take now (get es q) ≡ false
     none_found [] h a e u q f = absurd (true≢false (sym f))
     none_found (d ∷ ds) h a e u q f = go (nat_lt now d.0.0) refl (may_take now (get es d.0.1)) refl e (λ g. none_found ds (and_second _ _ h) (λ t q f. a t q (also d ds t q f)) g u q)
       where
-        pick : ((u, q) ≡ d.0) ⊎ (is_some (find due_cmp (u, q) ds) ≡ true) → may_take now (get es d.0.1) ≡ false → (is_some (find due_cmp (u, q) ds) ≡ true → may_take now (get es q) ≡ false) → may_take now (get es q) ≡ false
+        pick : ((u, q) ≡ d.0) ⊎ (is_some (find moment_cmp (u, q) ds) ≡ true) → may_take now (get es d.0.1) ≡ false → (is_some (find moment_cmp (u, q) ds) ≡ true → may_take now (get es q) ≡ false) → may_take now (get es q) ≡ false
         pick (inl is) m g = ap (λ (w : ℕ × Text). may_take now (get es w.1)) is ∙ m
         pick (inr f) m g = g f
 
         go : (b : Bool) → nat_lt now d.0.0 ≡ b → (c : Bool) → may_take now (get es d.0.1) ≡ c → cond b None (cond c (Some d.0.1) (first_taken now es ds)) ≡ None
-            → (first_taken now es ds ≡ None → is_some (find due_cmp (u, q) ds) ≡ true → may_take now (get es q) ≡ false) → may_take now (get es q) ≡ false
+            → (first_taken now es ds ≡ None → is_some (find moment_cmp (u, q) ds) ≡ true → may_take now (get es q) ≡ false) → may_take now (get es q) ≡ false
         go true n c m e ih =
             let of = a u q f in
             let low : d.0.0 ≤ u = not_higher d.0.0 u d.0.1 q (above d ds u q h f).1 in
@@ -186,11 +186,11 @@ module _ (now : ℕ) where
 abbrev pub key : Option (Text × Record) → Option Text
 key = option_map (λ (e : Text × Record). e.0)
 
-module _ (now : ℕ) (es : Map Record) (ds : Dues) (rise : is_sorted text_cmp es ≡ true) (up : is_sorted due_cmp ds ≡ true) (i : AreDues es ds) where
+module _ (now : ℕ) (es : Map Record) (ds : Moments) (rise : is_sorted text_cmp es ≡ true) (up : is_sorted moment_cmp ds ≡ true) (i : AreMoments due_of es ds) where
   are_of : AreOf now es ds
   are_of t r h = go (get es r) refl (sym (i.same t r) ∙ h)
     where
-      go : (v : Option Record) → get es r ≡ v → is_due_from t v ≡ true → (x : Record) × ((get es r ≡ Some x) × (x.due ≡ t))
+      go : (v : Option Record) → get es r ≡ v → is_at due_of t v ≡ true → (x : Record) × ((get es r ≡ Some x) × (x.due ≡ t))
       go None g e = absurd (true≢false (sym e))
       go (Some x) g e = (x, (g, sym (same_is nat_cmp_total nat_cmp-IsAntisymmetric t x.due e)))
 
@@ -201,7 +201,7 @@ module _ (now : ℕ) (es : Map Record) (ds : Dues) (rise : is_sorted text_cmp es
       go None p None q = refl
       go None p (Some e) q =
           let is = soonest_is now es e rise q in
-          absurd (true≢false (sym is.1 ∙ (ap (may_take now) (sym is.0) ∙ none_found now es ds up are_of p e.1.due e.0 (listed es ds rise up i e.0 e.1 is.0))))
+          absurd (true≢false (sym is.1 ∙ (ap (may_take now) (sym is.0) ∙ none_found now es ds up are_of p e.1.due e.0 (listed due_of es ds rise up i e.0 e.1 is.0))))
       go (Some r) p None q =
           let f = first_found now es ds r up are_of p in
           let s = soonest_first now es r f.0 rise f.1.0 f.1.1.0 in
@@ -212,6 +212,6 @@ module _ (now : ℕ) (es : Map Record) (ds : Dues) (rise : is_sorted text_cmp es
           let one : s.0 ≡ e = same_some s.0 e (sym s.1.0 ∙ q) in
           let is = soonest_is now es e rise q in
           let both : (f.0.due, r) ≡ (e.1.due, e.0) = level ticket_total ticket_antisymmetric (f.0.due, r) (e.1.due, e.0)
-          (f.1.1.1 e.1.due e.0 (listed es ds rise up i e.0 e.1 is.0) (ap (may_take now) is.0 ∙ is.1))
-          (subst (λ (g : Text × Record). is_gt (due_cmp (g.1.due, g.0) (f.0.due, r)) ≡ false) one s.1.1) in
+          (f.1.1.1 e.1.due e.0 (listed due_of es ds rise up i e.0 e.1 is.0) (ap (may_take now) is.0 ∙ is.1))
+          (subst (λ (g : Text × Record). is_gt (moment_cmp (g.1.due, g.0) (f.0.due, r)) ≡ false) one s.1.1) in
           ap (λ (x : ℕ × Text). Some x.1) both

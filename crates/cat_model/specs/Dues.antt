@@ -1,4 +1,4 @@
--- Records by reference, and by the moment from which they are due.
+-- Records by reference, by the moment from which they are due, and by the moment at which their leases lapse.
 use Rattle.std.specs.Prelude.{◌≡◌, ℕ, Bool, true, false, cond, ◌&&◌, nat_le, nat_lt, is_some, unwrap_or, List, [], ◌∷◌, length}
 use Rattle.std.specs.List.{filter}
 use Rattle.std.specs.Ordering.{eq_by_cmp, nat_cmp}
@@ -14,6 +14,16 @@ use Rattle.cat_model.specs.declared.types.Record.{Record}
 abbrev pub is_free : ℕ → Option Lease → Bool
 is_free now None = true
 is_free now (Some lease) = nat_le lease.expires now
+
+-- whether a lease expires above now
+abbrev pub is_live : ℕ → Option Lease → Bool
+is_live now None = false
+is_live now (Some lease) = nat_lt now lease.expires
+
+-- whether a record has a lease that expires above now
+abbrev pub is_leased : ℕ → Option Record → Bool
+is_leased now None = false
+is_leased now (Some x) = is_live now x.lease
 
 -- whether a record is due at the moment now
 abbrev pub is_due : ℕ → Option Record → Bool
@@ -48,30 +58,43 @@ soonest now (e ∷ es) = cond (may_take now (Some e.1)) (sooner e (soonest now e
 
 -- ---- moments in order
 
--- moments from which records are due, with their references
-abbrev pub Dues : Type 0
-Dues = List ((ℕ × Text) × Unit {0})
+-- moments, each with the reference of a record
+abbrev pub Moments : Type 0
+Moments = List ((ℕ × Text) × Unit {0})
 
 -- they are ordered by moment, and by reference where moments tie
-abbrev pub due_cmp : ℕ × Text → ℕ × Text → Ordering
-due_cmp = pair_cmp nat_cmp text_cmp
+abbrev pub moment_cmp : ℕ × Text → ℕ × Text → Ordering
+moment_cmp = pair_cmp nat_cmp text_cmp
 
--- whether a record is due from this moment on
-abbrev pub is_due_from : ℕ → Option Record → Bool
-is_due_from t None = false
-is_due_from t (Some x) = eq_by_cmp nat_cmp t x.due
+-- the moment from which a record is due
+abbrev pub due_of : Record → ℕ
+due_of x = x.due
 
--- a moment stands with a reference exactly where the reference's record is due from it on
-pub record AreDues (records : Map Record) (dues : Dues) : Type 0 where
-  pub same : (t : ℕ) (r : Text) → is_some (find due_cmp (t, r) dues) ≡ is_due_from t (get records r)
-  pub count : length dues ≡ length records
+-- the moment at which a lease lapses, 0 where there is none
+abbrev pub lapse : Option Lease → ℕ
+lapse None = 0
+lapse (Some lease) = lease.expires
+
+-- the moment at which the lease of a record lapses, 0 where it has none
+abbrev pub lapse_of : Record → ℕ
+lapse_of x = lapse x.lease
+
+-- whether this is the moment of a record
+abbrev pub is_at : (Record → ℕ) → ℕ → Option Record → Bool
+is_at f t None = false
+is_at f t (Some x) = eq_by_cmp nat_cmp t (f x)
+
+-- a moment stands with a reference exactly where it is that of the reference's record
+pub record AreMoments (f : Record → ℕ) (records : Map Record) (moments : Moments) : Type 0 where
+  pub same : (t : ℕ) (r : Text) → is_some (find moment_cmp (t, r) moments) ≡ is_at f t (get records r)
+  pub count : length moments ≡ length records
 
 -- in order of the moments, up to the present one, the first reference whose record may be taken
-abbrev pub first_taken : ℕ → Map Record → Dues → Option Text
+abbrev pub first_taken : ℕ → Map Record → Moments → Option Text
 first_taken now records [] = None
 first_taken now records (d ∷ ds) = cond (nat_lt now d.0.0) None (cond (may_take now (get records d.0.1)) (Some d.0.1) (first_taken now records ds))
 
 -- in order of the moments, up to the present one, the references
-abbrev pub refs_until : ℕ → Dues → List Text
+abbrev pub refs_until : ℕ → Moments → List Text
 refs_until now [] = []
 refs_until now (d ∷ ds) = cond (nat_lt now d.0.0) [] (d.0.1 ∷ refs_until now ds)

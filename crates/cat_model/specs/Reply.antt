@@ -10,9 +10,10 @@ use Rattle.cat_types.specs.declared.issue.Level.{Level}
 use Rattle.cat_types.specs.declared.issue.Level.TheVariants.{Error, Warning}
 use Rattle.cat_types.specs.declared.work.Outcome.TheVariants.{Good, Bad}
 use Rattle.cat_table.specs.Table.{Text, text_cmp, same_text, get, keys, tabulate, first}
-use Rattle.cat_model.specs.Catalogue.{Ref, Issues, Issue, Outcome, Rules, Row, Lease, Record, Orphan, State, row_at, holding, parts, known_refs}
+use Rattle.cat_model.specs.Catalogue.{Ref, Issues, Issue, Outcome, Rules, Row, Record, Orphan, State, row_at, holding, parts, known_refs}
 use Rattle.cat_model.specs.Step.{Settings, due_at, Given, Order, StitchOrder, change, source_at, next_taken, is_present, is_present_stitch}
 use Rattle.cat_model.specs.Step.Event.{Take}
+pub use Rattle.cat_model.specs.Dues.{is_leased, is_live}
 use Rattle.cat_model.specs.Settle.{Progress, order, due_refs, is_empty, stitch_order, marks_in_order}
 pub use Rattle.cat_model.specs.declared.types.Acted.{Acted}
 use Rattle.cat_model.specs.declared.types.Acted.TheVariants.{Now, Again}
@@ -64,16 +65,6 @@ counts p = record { rounds = p.rounds; leases = p.leases; stitched = p.stitched 
 -- whether no record is due and no reference is marked
 abbrev pub is_quiet : State → ℕ → Bool
 is_quiet m now = is_empty (due_refs now m) && is_empty m.marks
-
--- whether a lease expires above now
-abbrev pub is_live : ℕ → Option Lease → Bool
-is_live now None = false
-is_live now (Some lease) = nat_lt now lease.expires
-
--- whether a record has a lease that expires above now
-abbrev pub is_leased : ℕ → Option Record → Bool
-is_leased now None = false
-is_leased now (Some x) = is_live now x.lease
 
 -- the records with a live lease, in order of reference
 abbrev pub leased_refs : ℕ → State → List Ref

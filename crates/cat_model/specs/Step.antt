@@ -1,5 +1,5 @@
 -- The events of the catalogue.
-use Rattle.std.specs.Prelude.{ℕ, ◌+◌, Bool, false, true, cond, ◌&&◌, ◌||◌, nat_eq, nat_lt, nat_le, ◌^◌, is_none, List, [], ◌∷◌, is_some}
+use Rattle.std.specs.Prelude.{ℕ, ◌+◌, Bool, false, cond, ◌&&◌, ◌||◌, nat_eq, nat_lt, nat_le, ◌^◌, is_none, List, [], ◌∷◌, is_some}
 use Rattle.std.specs.declared.option.Option.{Option}
 use Rattle.std.specs.declared.option.Option.TheVariants.{None, Some}
 use Rattle.std.specs.Option.{option_map}

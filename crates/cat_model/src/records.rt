@@ -1,14 +1,16 @@
-//! Records by reference, and by the moment from which they are due.
+//! Records by reference, by the moment from which they are due, and by the moment at which their leases lapse.
 ghost use Rattle.std.specs.Prelude.{◌≡◌, ◌+◌, ◌<◌, ◌≤◌, ◌==◌, ◌∷◌, [], IfOk, IsTrue, Option, is_ok, is_some, if◌then◌else◌, length, option_map, slice_get};
 ghost use Rattle.std.specs.FinMap.Entries.{is_sorted};
+ghost use Rattle.std.specs.List.{filter};
 ghost use Rattle.cat_owned.specs.BoxedLeft.{boxed_left};
 ghost use Rattle.cat_table.specs.Rows.{without};
 ghost use Rattle.cat_table.specs.Table.{find, get, keys, put, text_cmp};
 ghost use Rattle.cat_types.specs.Amended.{amended};
-ghost use Rattle.cat_model.specs.Dues.{due_cmp, first_taken, is_free, may_take, refs_due, refs_until, rerecorded_at, soonest};
+ghost use Rattle.cat_model.specs.Dues.{first_taken, is_due, is_free, is_leased, lapse, may_take, moment_cmp, refs_due, refs_until, rerecorded_at, soonest};
 ghost use Rattle.std.specs.declared.option.Option.TheVariants.{Some};
 
 use crate::types::{Lease, Record};
+use cat_marks::marks::Above;
 use cat_owned::boxed::{BoxedItems, Node, Slot};
 use cat_owned::owned::Owned;
 use cat_ref::reference::Ref;
@@ -19,19 +21,21 @@ use cat_types::sorted::in_order;
 use std::alloc::{AllocError, Global};
 use std::marker::Model;
 
-// Moments from which records are due, each with the reference of its record.
-type Dues = Owned<(u64, Ref), ()>;
+// Moments, each with the reference of its record.
+type Moments = Owned<(u64, Ref), ()>;
 
 /// Records by reference. Contracts see them in order of reference. They are kept by the moments from which they are due, too,
-/// so that the one which a take leases is found without a look at those that are due later.
+/// so that the one which a take leases is found without a look at those that are due later, and by the moments at which their
+/// leases lapse, 0 for those that have none, so that live leases are counted without a look at any.
 #[derive(Drop)]
 pub struct Records {
     entries: Owned<Ref, Record>,
-    dues: Dues,
+    dues: Moments,
+    lapses: Moments,
 }
 
 impl Model for Records {
-    ghost use Rattle.cat_model.specs.Dues.{AreDues};
+    ghost use Rattle.cat_model.specs.Dues.{AreMoments, due_of, lapse_of};
     ghost use Rattle.cat_table.specs.Table.{Map};
     ghost use Rattle.cat_model.specs.declared.types.Record.{Record as TheRecord};
     ghost use Rattle.cat_model.specs.contracts.types.Record.{the_row};
@@ -43,7 +47,7 @@ impl Model for Records {
 
     ghost view = { λ a. a.entries };
 
-    ghost invariant = { λ a. AreDues a.entries a.dues };
+    ghost invariant = { λ a. AreMoments due_of a.entries a.dues × AreMoments lapse_of a.entries a.lapses };
 }
 
 /// A record under its reference, with all memory that putting it takes. Contracts see both.
@@ -51,11 +55,13 @@ impl Model for Records {
 pub struct ReadyRecord {
     entry: Node<(Ref, Record)>,
     due: Node<((u64, Ref), ())>,
+    lapse: Node<((u64, Ref), ())>,
 }
 
 impl Model for ReadyRecord {
     ghost use Rattle.std.specs.Prelude.{◌≡◌};
     ghost use Rattle.cat_table.specs.Table.{Text};
+    ghost use Rattle.cat_model.specs.Dues.{lapse_of};
     ghost use Rattle.cat_model.specs.declared.types.Record.{Record as TheRecord};
     ghost use Rattle.cat_model.specs.contracts.types.Record.{the_row};
     ghost use Rattle.std.specs.Coded.{coded_list, coded×, coded_ℕ};
@@ -66,7 +72,30 @@ impl Model for ReadyRecord {
 
     ghost view = { λ a. a.entry };
 
-    ghost invariant = { λ a. a.due ≡ ((a.entry.1.due, a.entry.0), tt {0}) };
+    ghost invariant = { λ a. (a.due ≡ ((a.entry.1.due, a.entry.0), tt {0})) × (a.lapse ≡ ((lapse_of a.entry.1, a.entry.0), tt {0})) };
+}
+
+// Takes the memory for a moment with a reference.
+fn ready_moment(
+    alloc: Global,
+    moment: u64,
+    reference: &Ref,
+) -> Result<Node<((u64, Ref), ())>, AllocError>
+    ensures { IfOk result (λ n. n ≡ ((moment, reference.now), tt {0})) }
+{
+    let slot = Slot::new(alloc)?;
+    let reference = reference.duplicate(alloc)?;
+    Ok(slot.fill(((moment, reference), ())))
+}
+
+// The moment at which a lease lapses, 0 where there is none.
+fn lapse_of(lease: &Option<Lease>) -> u64
+    ensures { result ≡ lapse lease.now }
+{
+    match lease {
+        None => 0,
+        Some(lease) => lease.expires,
+    }
 }
 
 impl ReadyRecord {
@@ -75,11 +104,12 @@ impl ReadyRecord {
         ensures { IfOk result (λ r. r ≡ (reference, kept)) }
     {
         let entry = Slot::new(alloc)?;
-        let due = Slot::new(alloc)?;
-        let key = (kept.due, reference.duplicate(alloc)?);
+        let due = ready_moment(alloc, kept.due, &reference)?;
+        let lapse = ready_moment(alloc, lapse_of(&kept.lease), &reference)?;
         Ok(ReadyRecord {
             entry: entry.fill((reference, kept)),
-            due: due.fill((key, ())),
+            due,
+            lapse,
         })
     }
 }
@@ -96,35 +126,43 @@ pub fn ready(alloc: Global, records: Vec<(Ref, Record)>) -> Result<Vec<ReadyReco
 }
 
 // Strikes out the moment of a record.
-fn strike_due(dues: &mut Dues, reference: &Ref, due: u64)
-    requires { IsTrue (is_some (find due_cmp (due, reference.now) dues.old)) }
-    ensures dues { dues.new ≡ without due_cmp (due, reference.now) dues.old }
-    ensures room { length dues.new < MOST }
+fn strike(moments: &mut Moments, reference: &Ref, moment: u64)
+    requires { IsTrue (is_some (find moment_cmp (moment, reference.now) moments.old)) }
+    ensures moments { moments.new ≡ without moment_cmp (moment, reference.now) moments.old }
+    ensures room { length moments.new < MOST }
 {
-    let moment = Pair {
-        first: &due,
+    let sought = Pair {
+        first: &moment,
         second: reference,
     };
-    match dues.seek_take(&moment) {
+    match moments.seek_take(&sought) {
         None => unreachable!(),
         Some(_node) => {}
     }
 }
 
-// The moment of a record goes from one to another.
-fn move_due(dues: &mut Dues, reference: &Ref, before: u64, after: u64)
-    requires { IsTrue (is_some (find due_cmp (before, reference.now) dues.old)) }
-    ensures { dues.new ≡ put due_cmp (after, reference.now) (tt {0}) (without due_cmp (before, reference.now) dues.old) }
+// Puts the moment of a record.
+fn put_moment(moments: &mut Moments, node: Node<((u64, Ref), ())>)
+    requires room { length moments.old < MOST }
+    ensures { moments.new ≡ put moment_cmp node.0 node.1 moments.old }
 {
-    let moment = Pair {
+    moments.put_node(node);
+}
+
+// The moment of a record goes from one to another.
+fn move_moment(moments: &mut Moments, reference: &Ref, before: u64, after: u64)
+    requires { IsTrue (is_some (find moment_cmp (before, reference.now) moments.old)) }
+    ensures { moments.new ≡ put moment_cmp (after, reference.now) (tt {0}) (without moment_cmp (before, reference.now) moments.old) }
+{
+    let sought = Pair {
         first: &before,
         second: reference,
     };
-    match dues.seek_take(&moment) {
+    match moments.seek_take(&sought) {
         None => unreachable!(),
         Some(node) => {
             let (((_, reference), nothing), slot) = node.open();
-            dues.put_node(slot.fill(((after, reference), nothing)));
+            moments.put_node(slot.fill(((after, reference), nothing)));
         }
     }
 }
@@ -149,7 +187,7 @@ fn may_take(now: u64, kept: Option<&Record>) -> bool
 }
 
 // In order of the moments, up to the present one, the first reference whose record may be taken.
-fn first_taken<'a>(now: u64, records: &Owned<Ref, Record>, dues: &'a Dues) -> Option<&'a Ref>
+fn first_taken<'a>(now: u64, records: &Owned<Ref, Record>, dues: &'a Moments) -> Option<&'a Ref>
     ensures { option_map (λ r. r.now) result ≡ first_taken now records.now dues.now }
 {
     for ((due, reference), _) in dues.iter() {
@@ -164,7 +202,7 @@ fn first_taken<'a>(now: u64, records: &Owned<Ref, Record>, dues: &'a Dues) -> Op
 }
 
 // The references of the moments up to the present one, in order of the moments.
-fn refs_until(alloc: Global, now: u64, dues: &Dues) -> Result<Vec<Ref>, AllocError>
+fn refs_until(alloc: Global, now: u64, dues: &Moments) -> Result<Vec<Ref>, AllocError>
     ensures { IfOk result (λ refs. refs.items ≡ refs_until now dues.now) }
 {
     let mut refs = Vec::new(alloc);
@@ -178,13 +216,21 @@ fn refs_until(alloc: Global, now: u64, dues: &Dues) -> Result<Vec<Ref>, AllocErr
 }
 
 // Whether the first of the moments is after the present one, or there is none.
-fn is_none_until(now: u64, dues: &Dues) -> bool
+fn is_none_until(now: u64, dues: &Moments) -> bool
     ensures { result ≡ (length (refs_until now dues.now) == 0) }
 {
     match dues.at(0) {
         None => true,
         Some(((due, _), _)) => now < *due,
     }
+}
+
+// How many of the moments stand up to the present one.
+#[tactic(auto, using(crate::proofs::Counted::before_until))]
+fn count_until(now: u64, moments: &Moments) -> usize
+    ensures { result ≡ length (refs_until now moments.now) }
+{
+    moments.seek_place(&Above { number: now })
 }
 
 impl Records {
@@ -195,6 +241,7 @@ impl Records {
         Records {
             entries: Owned::new(),
             dues: Owned::new(),
+            lapses: Owned::new(),
         }
     }
 
@@ -285,6 +332,25 @@ impl Records {
         self.dues.in_order();
         is_none_until(now, &self.dues)
     }
+
+    /// How many records are due at this moment. None of them is looked at.
+    pub fn count_due(&self, now: u64) -> usize
+        ensures { result ≡ length (filter (λ e. is_due now (Some e.1)) self.now) }
+    {
+        self.entries.in_order();
+        self.dues.in_order();
+        count_until(now, &self.dues)
+    }
+
+    /// How many records have a live lease at this moment. None of them is looked at.
+    pub fn count_leased(&self, now: u64) -> usize
+        ensures { result ≡ length (filter (λ e. is_leased now (Some e.1)) self.now) }
+    {
+        self.entries.in_order();
+        self.lapses.in_order();
+        let lapsed = count_until(now, &self.lapses);
+        self.entries.len() - lapsed
+    }
 }
 
 impl Records {
@@ -295,17 +361,15 @@ impl Records {
     {
         self.entries.in_order();
         self.dues.in_order();
-        let ReadyRecord { entry, due } = ready;
-        match self.entries.put_node(entry) {
-            None => {
-                self.dues.put_node(due);
-            }
-            Some(former) => {
-                let (reference, record) = former.item();
-                strike_due(&mut self.dues, reference, record.due);
-                self.dues.put_node(due);
-            }
+        self.lapses.in_order();
+        let ReadyRecord { entry, due, lapse } = ready;
+        if let Some(former) = self.entries.put_node(entry) {
+            let (reference, record) = former.item();
+            strike(&mut self.dues, reference, record.due);
+            strike(&mut self.lapses, reference, lapse_of(&record.lease));
         }
+        put_moment(&mut self.dues, due);
+        put_moment(&mut self.lapses, lapse);
     }
 
     /// Puts a record under its reference, in place of a former one. Where memory is wanted, all is as before.
@@ -326,8 +390,11 @@ impl Records {
     {
         self.entries.in_order();
         self.dues.in_order();
+        self.lapses.in_order();
         if let Some(former) = self.entries.take(reference) {
-            strike_due(&mut self.dues, reference, former.item().1.due);
+            let (_, record) = former.item();
+            strike(&mut self.dues, reference, record.due);
+            strike(&mut self.lapses, reference, lapse_of(&record.lease));
         }
     }
 
@@ -337,13 +404,21 @@ impl Records {
     {
         self.entries.in_order();
         self.dues.in_order();
+        self.lapses.in_order();
         if let Some(node) = self.entries.take(reference) {
             let ((reference, record), slot) = node.open();
             let mut record = record;
             let before = record.due;
+            let lapsed = lapse_of(&record.lease);
             record.due = due.unwrap_or(before);
             record.lease = lease;
-            move_due(&mut self.dues, &reference, before, record.due);
+            move_moment(&mut self.dues, &reference, before, record.due);
+            move_moment(
+                &mut self.lapses,
+                &reference,
+                lapsed,
+                lapse_of(&record.lease),
+            );
             self.entries.put_node(slot.fill((reference, record)));
         }
     }
@@ -376,25 +451,35 @@ fn copied(alloc: Global, records: &Owned<Ref, Record>) -> Result<Vec<(Ref, Recor
 }
 
 // Copies of moments with their references.
-fn copied_dues(alloc: Global, dues: &Dues) -> Result<Vec<((u64, Ref), ())>, AllocError>
-    ensures { IfOk result (λ made. made.items ≡ dues.now) }
+fn copied_moments(alloc: Global, moments: &Moments) -> Result<Vec<((u64, Ref), ())>, AllocError>
+    ensures { IfOk result (λ made. made.items ≡ moments.now) }
 {
-    let mut made = Vec::with_capacity(alloc, dues.len())?;
-    for (moment, _) in dues.iter() {
+    let mut made = Vec::with_capacity(alloc, moments.len())?;
+    for (moment, _) in moments.iter() {
         made.push((moment.duplicate(alloc)?, ()))?;
     }
     Ok(made)
 }
 
+// A copy of moments with their references.
+fn moments_again(alloc: Global, moments: &Moments) -> Result<Moments, AllocError>
+    ensures { IfOk result (λ made. made ≡ moments.now) }
+{
+    moments.in_order();
+    let copies = copied_moments(alloc, moments)?;
+    Owned::from_vec(alloc, copies)
+}
+
 impl Copied for Records {
     fn duplicate(&self, alloc: Global) -> Result<Records, AllocError> {
         self.entries.in_order();
-        self.dues.in_order();
         let entries = copied(alloc, &self.entries)?;
-        let dues = copied_dues(alloc, &self.dues)?;
+        let dues = moments_again(alloc, &self.dues)?;
+        let lapses = moments_again(alloc, &self.lapses)?;
         Ok(Records {
             entries: Owned::from_vec(alloc, entries)?,
-            dues: Owned::from_vec(alloc, dues)?,
+            dues,
+            lapses,
         })
     }
 }

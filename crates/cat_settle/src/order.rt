@@ -143,7 +143,7 @@ pub fn stitch_order_of<L: Layers>(
 }
 
 /// Whether a record's due moment has come.
-pub fn due(now: u64, kept: Option<&Record>) -> bool
+pub(crate) fn due(now: u64, kept: Option<&Record>) -> bool
     ensures { result ≡ is_due now (option_map (λ x. x.now) kept.entry) }
 {
     match kept {

@@ -7,6 +7,6 @@ use Rattle.cat_core.proofs.questions.counts_of.Goals as goal
 
 pub returns : goal.returns
 returns c =
-    let due = c.count_due-due.ensures ∙ count_in_order text_total text_antisymmetric (is_due c.args.now) c.args.m.now.records c.requires in
-    let leased = c.count_leased-leased.ensures ∙ count_in_order text_total text_antisymmetric (is_leased c.args.now) c.args.m.now.records c.requires in
+    let due = c.count_due.ensures ∙ count_in_order text_total text_antisymmetric (is_due c.args.now) c.args.m.now.records c.requires in
+    let leased = c.count_leased.ensures ∙ count_in_order text_total text_antisymmetric (is_leased c.args.now) c.args.m.now.records c.requires in
     λ i. record { records = c.len.ensures.records i; orphans = c.len-2.ensures.entries i; due = due i; leased = leased i; marked = c.len-3.ensures i }
