@@ -3,8 +3,9 @@
 
 For each COUNT the sample catalogue with so many Components over ten Groups is given and settled in a session, and then asked: for an entity by name, for
 the list of those that keep to three conditions, for a page of 20 ordered by name with its total, and for the facet of owners. The questions are those that
-`postgres.py` asks of the same documents in PostgreSQL; run both at one time. Each figure is the mean of as many replies as come in three seconds, of which
-there is one at least; beside it stands the size of a reply.
+`postgres.py` asks of the same documents in PostgreSQL; run both at one time. A question lists 1,024 of the documents that are new to the index, so pages are
+asked first until all are listed; what they took is printed. Each figure is the mean of as many replies as come in three seconds, of which there is one at
+least; beside it stands the size of a reply.
 """
 import json, os, subprocess, sys, time
 
@@ -37,6 +38,9 @@ def given(count):
         yield f'full sample{start} ' + json.dumps({'serial': 1, 'entities': items[start:start + 30000]}, separators=(',', ':'))
 
 
+# how many documents a question has the index list
+LISTED_AT_ONCE = 1024
+
 QUESTIONS = {
     'by name': lambda k, count: f'get component:default/c{k * 7919 % count}',
     'filter': lambda k, count: 'list filter=kind=component,spec.type=service,relations.ownedBy=group:default/g3',
@@ -62,6 +66,12 @@ def main():
         start = time.time()
         ask('settle')
         print(f', settled in {time.time() - start:.2f} s')
+        first = []
+        for _ in range(count // LISTED_AT_ONCE + 2):
+            start = time.time()
+            ask(QUESTIONS['page'](0, count))
+            first.append((time.time() - start) * 1000)
+        print(f'the first {len(first)} pages: {min(first[:-1]):.1f} to {max(first):.1f} ms')
         for name, line in QUESTIONS.items():
             start, times = time.time(), 0
             while time.time() - start < 3:

@@ -29,12 +29,12 @@ fn put(alloc: Global, index: &mut Index, text: &str) -> Result<(), Fault> {
     let (name, body) = text.split_once(' ').unwrap_or((text, ""));
     let reference = parse(alloc, name, Some("component"), "default")?;
     let document = Node::new(alloc, read(alloc, body.as_bytes())?)?;
-    index.put(alloc, &reference, &document)?;
+    index.put(alloc, reference, document)?;
     Ok(())
 }
 
-// The names that are found in an index, one after the other. Of the fields, `+a {}` puts a document, `-a` takes it out, and
-// `?kind` finds.
+// The names that are found in an index, one after the other. Of the fields, `+a {}` puts a document, `-a` takes it out, `=` lists one
+// that waits for it, and `?kind` finds.
 fn found(alloc: Global, case: &Case) -> Result<String, Fault> {
     let mut index = Index::empty();
     let mut out = String::new(alloc);
@@ -45,6 +45,7 @@ fn found(alloc: Global, case: &Case) -> Result<String, Fault> {
                 let reference = parse(alloc, name, Some("component"), "default")?;
                 index.remove(alloc, &reference)?;
             }
+            Some(("=", _)) => index.list_pending(alloc, 1)?,
             Some((_, texts)) => {
                 push_found(&mut out, alloc, &index, texts)?;
                 out.push_str("|")?;

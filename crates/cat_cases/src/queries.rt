@@ -2,13 +2,13 @@
 use crate::case::Case;
 use crate::fault::Fault;
 use crate::shown::{json, push_word, text_of};
+use cat_pages::page::Page;
+use cat_pages::paging::page;
+use cat_pages::query::Query;
 use cat_query::answers::{push_facets, push_list, push_many, push_page};
 use cat_query::cursor::write_cursor;
 use cat_query::facets::facets;
-use cat_query::page::Page;
-use cat_query::paging::page;
 use cat_query::project::project;
-use cat_query::query::Query;
 use cat_query::read::read_query;
 use cat_ref::reference::{Ref, parse, ref_of};
 use cat_table::map::Map;

@@ -113,6 +113,19 @@ fn shown(alloc: Global, version: u8, candidate: &Candidate) -> Result<String, Al
     Ok(out)
 }
 
+// What rows are read to, in short.
+fn read(alloc: Global, rows: &StoredRows) -> Result<String, AllocError> {
+    let version = version_of(rows);
+    match candidate(alloc, rows)? {
+        None => String::from_str(alloc, "not read"),
+        Some(candidate) => {
+            let text = shown(alloc, version, &candidate);
+            drop(candidate);
+            text
+        }
+    }
+}
+
 /// What the rows of the fields come to under the limit of the input in the first one, or the row that is wrong.
 pub fn opened(alloc: Global, case: &Case) -> Result<String, Fault> {
     let rows = rows_of(alloc, case)?;
@@ -122,9 +135,6 @@ pub fn opened(alloc: Global, case: &Case) -> Result<String, Fault> {
             let key = key.as_str();
             Ok(format!(in alloc; "{table} {key}")?)
         }
-        None => match candidate(alloc, &rows)? {
-            Some(candidate) => Ok(shown(alloc, version_of(&rows), &candidate)?),
-            None => Ok(String::from_str(alloc, "not read")?),
-        },
+        None => Ok(read(alloc, &rows)?),
     }
 }

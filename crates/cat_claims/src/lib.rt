@@ -6,7 +6,7 @@
 #![tactic(auto)]
 
 pub mod claims;
-mod cut;
+pub mod cut;
 mod dropped;
 mod mend;
 pub mod replaced;

@@ -13,7 +13,7 @@ use Rattle.cat_inputs.specs.declared.form.Form.TheVariants as form
 use Rattle.cat_query.specs.declared.ask.Ask.{Ask}
 use Rattle.cat_query.specs.declared.ask.Ask.TheVariants as ask
 use Rattle.cat_query.specs.declared.fault.QueryFault.{QueryFault}
-use Rattle.cat_query.specs.declared.query.Query.{Query}
+use Rattle.cat_pages.specs.declared.query.Query.{Query}
 use Rattle.cat_commands.specs.declared.fault.LineFault.{LineFault}
 use Rattle.cat_commands.specs.declared.fault.LineFault.TheVariants.{LongLine, BadWord, BadArguments}
 use Rattle.cat_commands.specs.declared.keyword.Keyword.{Keyword}

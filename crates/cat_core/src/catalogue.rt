@@ -8,7 +8,7 @@ ghost use Rattle.cat_model.specs.Fresh.{IsFresh};
 ghost use Rattle.cat_model.specs.Given.{given};
 ghost use Rattle.cat_model.specs.Reply.{acted, counts, finished, issues_at, next_known, next_stitch, placed, resting, state_counts, taken, waiting};
 ghost use Rattle.cat_model.specs.Settle.{not_begun, try_settle};
-ghost use Rattle.cat_model.specs.Sound.{AreBegun, Quiet, its_number};
+ghost use Rattle.cat_model.specs.Sound.{AreBegun, AreSmall, Quiet, Sound, its_number};
 ghost use Rattle.cat_events.specs.Coming.{HasCome, IsSteady};
 ghost use Rattle.cat_events.specs.Stepped.{come_to, AreMoments};
 ghost use Rattle.cat_core.specs.Answer.{IsSettled, settle_answer};
@@ -43,6 +43,7 @@ use cat_model::types::{
     StitchOrder, Stop,
 };
 use cat_ref::reference::Ref;
+use cat_search::index::Index;
 use cat_settle::settle::settled;
 use cat_table::listing::{Copied, Listing};
 use cat_table::map::Map;
@@ -98,6 +99,24 @@ impl<L: Layers> Model for Saved<L> {
     ghost invariant = { λ a. IsSaved L.rules a.links a.state };
 }
 
+impl<L: Layers> Saved<L> {
+    /// The state that was held, of which what must hold between two events holds.
+    pub fn state(&self) -> &State
+        ensures state { result.now ≡ self.now }
+        ensures sound { Sound L.rules self.now }
+        ensures small { AreSmall self.now }
+    {
+        &self.state
+    }
+
+    /// The reference of a record or an orphan with this number. No memory is taken.
+    pub fn ref_at(&self, number: u64) -> Option<&Ref>
+        ensures { option_map (λ r. r.now) result ≡ ref_at self.now number }
+    {
+        with_number(&self.state, number)
+    }
+}
+
 fn empty_state(alloc: Global) -> State
     ensures { result ≡ start }
 {
@@ -109,7 +128,7 @@ fn empty_state(alloc: Global) -> State
         records: Records::new(),
         orphans: Map::new(),
         marks: Marks::new(),
-        documents: Map::new(),
+        documents: Index::empty(),
         arrival: 1,
         number: 1,
         token: 1,
@@ -536,12 +555,36 @@ impl<L: Layers> Catalogue<L> {
         &self.ledger.state
     }
 
+    /// All that the catalogue holds, of which what must hold between two events holds.
+    pub fn sound_state(&self) -> &State
+        ensures state { result.now ≡ self.now.state }
+        ensures sound { Sound L.rules self.now.state }
+        ensures small { AreSmall self.now.state }
+    {
+        &self.ledger.state
+    }
+
     /// The documents, in order of reference. Where the catalogue is quiet they are those computed afresh from its inputs.
     pub fn docs(&self) -> &Map<Ref, Node>
         ensures docs { result.now ≡ self.now.state.documents }
         ensures fresh { (now : ℕ) → Quiet self.now.state now → IsFresh L.rules self.now.state }
     {
+        self.ledger.state.documents.documents()
+    }
+
+    /// The documents as an index, which answers filters and orders.
+    pub fn index(&self) -> &Index
+        ensures { result.now ≡ self.now.state.documents }
+    {
         &self.ledger.state.documents
+    }
+
+    /// Brings the index up to date for at most `most` of the documents that were stored or removed since it was asked to last. Contracts see no
+    /// difference: what isn't listed yet is asked one by one. Where memory is wanted, some wait on.
+    pub fn list_documents(&mut self, alloc: Global, most: usize)
+        ensures { self.new ≡ self.old }
+    {
+        let _listed = self.ledger.state.documents.list_pending(alloc, most);
     }
 
     /// The document of a reference. Where the catalogue is quiet the documents are those computed afresh from its inputs.
@@ -549,7 +592,7 @@ impl<L: Layers> Catalogue<L> {
         ensures document { option_map (λ x. x.now) result ≡ get self.now.state.documents reference.now }
         ensures fresh { (now : ℕ) → Quiet self.now.state now → IsFresh L.rules self.now.state }
     {
-        self.ledger.state.documents.get(reference)
+        self.docs().get(reference)
     }
 
     /// The number of a record or an orphan, which its `uid` shows.

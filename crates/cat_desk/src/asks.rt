@@ -14,7 +14,7 @@ use cat_query::facets::FacetFault;
 use cat_ref::reference::Ref;
 use cat_replies::events::{push_counts, push_quiet};
 use cat_replies::lists::{push_conflicts, push_document, push_failures, push_orphans};
-use cat_table::map::Map;
+use cat_search::index::Index;
 use cat_types::node::Node;
 use std::alloc::{AllocError, Global};
 
@@ -43,6 +43,33 @@ pub fn write_ask<L: Layers>(
     }
 }
 
+/// How many documents a question has listed at most before it is answered.
+const LISTED_AT_ONCE: usize = 1024;
+
+// Whether a question looks through the documents.
+fn looks_through(ask: &Ask) -> bool {
+    match ask {
+        Ask::List(_) | Ask::Page(_) | Ask::Facets(_) => true,
+        Ask::Get(_)
+        | Ask::Many(..)
+        | Ask::Number(_)
+        | Ask::Conflicts
+        | Ask::Failed
+        | Ask::Orphans
+        | Ask::State
+        | Ask::Quiet => false,
+    }
+}
+
+/// Has the catalogue list some of the documents that wait for it, where a question looks through the documents. Contracts see no difference.
+pub fn prepare<L: Layers>(alloc: Global, catalogue: &mut Catalogue<L>, ask: &Ask)
+    ensures { catalogue.new ≡ catalogue.old }
+{
+    if looks_through(ask) {
+        catalogue.list_documents(alloc, LISTED_AT_ONCE);
+    }
+}
+
 /// Whether a question is answered from the documents alone.
 pub fn is_shown(ask: &Ask) -> bool
     ensures { result ≡ is_shown ask.now }
@@ -56,13 +83,13 @@ pub fn is_shown(ask: &Ask) -> bool
 
 /// Answers a question from documents that are all it asks for. Only what is answered `Written` changes `out`, by appending the
 /// answer.
-pub fn write_shown(alloc: Global, documents: &Map<Ref, Node>, ask: &Ask, out: &mut Vec<u8>) -> Asked
+pub fn write_shown(alloc: Global, documents: &Index, ask: &Ask, out: &mut Vec<u8>) -> Asked
     requires { is_shown ask.now ≡ true }
     ensures answer { (text : List ℕ) × (out.new.items ≡ out.old.items ++ text) × IsAnswer (shown_text ask.now documents.now) result text }
     ensures same { result ≢ Asked.Written → out.new.items ≡ out.old.items }
 {
     match ask {
-        Ask::Get(reference) => document(alloc, documents.get(reference), out),
+        Ask::Get(reference) => document(alloc, documents.documents().get(reference), out),
         Ask::List(query) => written(push_list(alloc, out, documents, query)),
         Ask::Page(query) => written(push_page(alloc, out, documents, query)),
         Ask::Facets(query) => match push_facets(alloc, out, documents, query) {

@@ -5,7 +5,7 @@ ghost use Rattle.cat_desk.specs.Asks.{AsksOnce};
 ghost use Rattle.cat_desk.specs.Deed.{deed_of};
 ghost use Rattle.cat_desk.specs.declared.command.Reply.TheVariants as replies;
 
-use crate::asks::write_ask;
+use crate::asks::{prepare, write_ask};
 use crate::command::{Asked, Command, Reply};
 use crate::desk::Desk;
 use cat_core::catalogue::{Catalogue, Done, Saved, Stitched};
@@ -63,6 +63,16 @@ impl<L: Layers, C: Clock> Timed<L, C> {
     }
 }
 
+impl<L: Layers, C: Clock> Timed<L, C> {
+    /// Prepares the catalogue for a question. Contracts see no difference.
+    pub fn prepare(&mut self, alloc: Global, ask: &Ask)
+        ensures catalogue { self.new.catalogue ≡ self.old.catalogue }
+        ensures clock { self.new.clock ≡ self.old.clock }
+    {
+        prepare(alloc, &mut self.catalogue, ask);
+    }
+}
+
 impl<L: Layers> Timed<L, FixedClock> {
     /// The moment at which the next command or question comes.
     pub fn moment(&self) -> u64
@@ -103,6 +113,7 @@ impl<'a, L: Layers, C: Clock> Desk<Done<'a, L>, Stitched<'a, L>> for Timed<L, C>
         ensures same { result ≢ Asked.Written → out.new.items ≡ out.old.items }
     {
         let now = self.clock.now();
+        prepare(alloc, &mut self.catalogue, ask);
         write_ask(alloc, &self.catalogue, ask, now, out)
     }
 }

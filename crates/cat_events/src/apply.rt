@@ -1,5 +1,5 @@
 //! A plan is made to stand: its room is taken first, and then nothing can fail.
-ghost use Rattle.std.specs.Prelude.{◌≡◌, is_ok, if◌then◌else◌, IfOk};
+ghost use Rattle.std.specs.Prelude.{◌≡◌, [], is_ok, if◌then◌else◌, IfOk};
 ghost use Rattle.cat_frame.specs.Amended.{amended};
 ghost use Rattle.cat_events.specs.Planned.{given_by, planned, with_marks, with_orphans, with_records, without_documents};
 
@@ -10,6 +10,7 @@ use cat_links::links::Links;
 use cat_model::records::ready;
 use cat_model::types::{Orphan, Record, State};
 use cat_ref::reference::Ref;
+use cat_search::index::Index;
 use cat_table::listing::Listing;
 use cat_table::map::Map;
 use cat_table::tree::MOST;
@@ -32,12 +33,22 @@ fn amended_map<X: Drop>(
     Ok(next)
 }
 
+// The documents without those of some references. What stays is shared.
+fn left_documents(alloc: Global, documents: &Index, gone: &[Ref]) -> Result<Index, AllocError>
+    ensures { IfOk result (λ next. next ≡ amended [] gone.now documents.now) }
+{
+    let mut next = documents.share()?;
+    for reference in gone {
+        next.remove(alloc, reference)?;
+    }
+    Ok(next)
+}
+
 // The documents of some references go.
 fn amend_documents(alloc: Global, gone: Listing<Ref>, state: &mut State) -> Result<(), AllocError>
     ensures { state.new ≡ (if is_ok result then without_documents gone state.old else state.old) }
 {
-    let none = Vec::new(alloc);
-    state.documents = amended_map(alloc, &state.documents, none, gone.as_slice())?;
+    state.documents = left_documents(alloc, &state.documents, gone.as_slice())?;
     Ok(())
 }
 

@@ -48,6 +48,15 @@ impl<L: Layers, C: Clock> Fed<L, C> {
         &self.timed
     }
 
+    /// Prepares the catalogue for a question. Contracts see no difference.
+    pub fn prepare(&mut self, alloc: Global, ask: &Ask)
+        ensures catalogue { self.new.timed.catalogue ≡ self.old.timed.catalogue }
+        ensures clock { self.new.timed.clock ≡ self.old.timed.clock }
+        ensures feed { self.new.feed ≡ self.old.feed }
+    {
+        self.timed.prepare(alloc, ask);
+    }
+
     /// Does what a command says, which stays with the caller, and answers it with the moment at which it came.
     pub fn act_at(
         &mut self,

@@ -3,8 +3,8 @@ use Rattle.std.proofs.Common.{◌≡◌, [], ◌∷◌, ◌++◌, refl, sym, ap,
 use Rattle.cat_feed.specs.Changes.{Documents}
 use Rattle.cat_following.specs.Answers.{documents_line}
 use Rattle.cat_query.specs.Answers.{list_data, shown}
-use Rattle.cat_query.specs.Page.{matching}
-use Rattle.cat_query.specs.declared.query.Query.{Query}
+use Rattle.cat_pages.specs.Page.{matching}
+use Rattle.cat_pages.specs.declared.query.Query.{Query}
 use Rattle.cat_tree.specs.Data.{items_of, list}
 use Rattle.cat_tree.specs.Text.{text_of}
 

@@ -3,7 +3,7 @@ ghost use Rattle.std.specs.Prelude.{◌≡◌, ◌++◌, ◌∷◌, []};
 ghost use Rattle.cat_feed.specs.Changes.{Documents};
 ghost use Rattle.cat_following.specs.Answers.{documents_line};
 ghost use Rattle.cat_query.specs.Answers.{list_data};
-ghost use Rattle.cat_query.specs.declared.query.Query.{Query as Asked};
+ghost use Rattle.cat_pages.specs.declared.query.Query.{Query as Asked};
 ghost use Rattle.cat_tree.specs.Text.{text_of};
 
 /// The list of the documents is what a question for documents answers that names no filter and no field.

@@ -18,6 +18,8 @@ use Rattle.cat_types.specs.contracts.node.Node as Node
 use Rattle.cat_types.specs.contracts.node.Node.TheInside as inside
 use Rattle.cat_types.specs.contracts.work.Output as Output
 use Rattle.cat_types.specs.contracts.relation.Relation as Relation
+use Rattle.cat_search.specs.contracts.index.Index as Index
+use Rattle.cat_search.specs.contracts.index.Index.TheInside as searched
 use Rattle.cat_items.specs.contracts.items.OfferedItems as OfferedItems
 use Rattle.cat_items.specs.contracts.items.OfferedItems.TheInside as counted
 use Rattle.cat_links.specs.contracts.links.Links as Links
@@ -129,6 +131,15 @@ records_send = view_send _ _ _ _ _ (declared_send recorded.the_type (
   (search (Owned-send, entry_send, known) depth 60, (search (Owned-send, entry_send, known) depth 60, tt)),
 ))
 
+index_send : IsSend Index.the_row
+index_send = view_send _ _ _ _ _ (declared_send searched.the_type (
+  search (Map-send, known) depth 60,
+  (
+    search (Map-send, known) depth 60,
+    (search (Map-send, Map-sync, known) depth 60, (search (Map-send, Map-sync, entry_send, entry_sync, text_send, text_sync, known) depth 60, tt)),
+  ),
+))
+
 pub state_send : IsSend State.the_row
 state_send = declared_send State.the_type (
   search (Map-send, inputs_send, inputs_sync, text_send, text_sync, known) depth 60,
@@ -145,7 +156,7 @@ state_send = declared_send State.the_type (
             (
               search (marks_send, known) depth 60,
               (
-                search (Map-send, known) depth 60,
+                search (index_send, known) depth 60,
                 (search known depth 60, (search known depth 60, (search known depth 60, (search known depth 60, tt)))),
               ),
             ),

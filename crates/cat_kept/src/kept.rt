@@ -11,6 +11,7 @@ ghost use Rattle.cat_tables.specs.Stored.{stored, texts_of};
 
 use cat_commands::line::Line;
 use cat_commands::read::read_line;
+use cat_core::catalogue::Saved;
 use cat_hold::layers::Layers;
 use cat_keeper::keeper::{Committed, Keeper};
 use cat_loop::Machine;
@@ -85,6 +86,41 @@ fn pass<L: Layers>(session: &mut Session<L>, line: Line) -> Result<Vec<u8>, Allo
     session.carry_out(line)
 }
 
+// What a line is answered where its change is kept and where it isn't, and what the catalogue held before it.
+#[derive(Drop)]
+struct Carried<L: Layers> {
+    text: Vec<u8>,
+    refused: Vec<u8>,
+    saved: Saved<L>,
+}
+
+// Carries out a line, and keeps what takes it back.
+fn carry<L: Layers>(
+    alloc: Global,
+    session: &mut Session<L>,
+    line: Line,
+) -> Result<Carried<L>, AllocError>
+    requires { IsReady line }
+    ensures text { IfOk result (λ x. Carries L.rules line session.old session.new x.text.items) }
+    ensures refused { IfOk result (λ x. x.refused.items ≡ refused_keeper) }
+    ensures saved { IfOk result (λ x. x.saved ≡ session.old.session.state) }
+    ensures err { OnErr result (session.new ≡ session.old) }
+{
+    let refused = refusal(alloc)?;
+    let saved = session.saved()?;
+    match session.carry_out(line) {
+        Ok(text) => Ok(Carried {
+            text,
+            refused,
+            saved,
+        }),
+        Err(_) => {
+            drop(saved);
+            Err(AllocError)
+        }
+    }
+}
+
 // Carries out a line that may change the stored rows, and has the store follow. For want of memory all is as before.
 fn follow<L: Layers, K: Keeper>(
     alloc: Global,
@@ -103,11 +139,16 @@ fn follow<L: Layers, K: Keeper>(
     ensures followed { IsFollowed (K.tables store.new.place store.new.keeper) store.new.orphans store.new.rows session.new.orphans session.new.session.state }
     ensures place { store.new.place ≡ store.old.place }
 {
-    let saved = session.saved()?;
-    let refused = refusal(alloc)?;
-    let text = session.carry_out(line)?;
+    let Carried {
+        text,
+        refused,
+        saved,
+    } = carry(alloc, session, line)?;
     match store.follow(alloc, session.view()) {
-        Committed::Kept => Ok(text),
+        Committed::Kept => {
+            drop(saved);
+            Ok(text)
+        }
         Committed::Failed => {
             session.put_back(saved);
             *refusals = refusals.saturating_add(1);

@@ -1,3 +1,4 @@
 pub mod Answered
 pub mod Deeds
 pub mod Followed
+pub mod Beyond

@@ -8,12 +8,19 @@ ghost use Rattle.cat_feed.specs.Feed.{begun};
 ghost use Rattle.cat_io.specs.Causes.{Rose};
 ghost use Rattle.cat_io.specs.Clock.{CountsReading};
 ghost use Rattle.cat_kept_desk.specs.Deeds.{KeptActs, leaves_rows};
+ghost use Rattle.cat_keeper.specs.Answers.{Are};
+ghost use Rattle.cat_keeper.specs.declared.keeper.Committed.TheVariants.{Kept};
 ghost use Rattle.cat_kept_desk.specs.Followed.{IsFollowed};
-ghost use Rattle.cat_tables.specs.Stored.{stored};
+ghost use Rattle.cat_kept_desk.specs.Reached.{IsReached};
+ghost use Rattle.cat_model.specs.Sound.{AreOffers, AreSmall};
+ghost use Rattle.cat_renewed.specs.Renewed.{IsBeyond};
+ghost use Rattle.cat_renewed.specs.declared.reached.Reached.{Reached};
+ghost use Rattle.cat_tables.specs.Stored.{stored, texts_of};
 
-use cat_core::catalogue::{Catalogue, Done, Stitched};
+use crate::reaching::reached;
+use cat_core::catalogue::{Catalogue, Done, Saved, Stitched};
 use cat_core::fault::CoreFault;
-use cat_desk::asks::write_ask;
+use cat_desk::asks::{prepare, write_ask};
 use cat_desk::command::{Asked, Command, Reply};
 use cat_desk::desk::Desk;
 use cat_desk::timed::act;
@@ -26,6 +33,7 @@ use cat_feed::feed::Feed;
 use cat_hold::layers::Layers;
 use cat_io::Clock;
 use cat_keeper::keeper::{Committed, Keeper};
+use cat_model::types::State;
 use cat_query::ask::Ask;
 use cat_store::store::Store;
 use std::alloc::Global;
@@ -74,6 +82,18 @@ impl<L: Layers, C: Clock, K: Keeper> KeptDesk<L, C, K> {
         ensures { result.now ≡ self.now.catalogue }
     {
         &self.catalogue
+    }
+}
+
+impl<L: Layers, C: Clock, K: Keeper> KeptDesk<L, C, K> {
+    /// Prepares the catalogue for a question. Contracts see no difference.
+    pub fn prepare(&mut self, alloc: Global, ask: &Ask)
+        ensures catalogue { self.new.catalogue ≡ self.old.catalogue }
+        ensures clock { self.new.clock ≡ self.old.clock }
+        ensures feed { self.new.feed ≡ self.old.feed }
+        ensures store { self.new.store ≡ self.old.store }
+    {
+        prepare(alloc, &mut self.catalogue, ask);
     }
 }
 
@@ -126,6 +146,33 @@ fn pass<L: Layers>(
     act(alloc, catalogue, command, now)
 }
 
+// Has the store follow a command, given what the catalogue held before it and holds after it.
+fn keep<L: Layers, K: Keeper>(
+    alloc: Global,
+    store: &mut Store<K>,
+    command: &Command<Done<'_, L>, Stitched<'_, L>>,
+    saved: &Saved<L>,
+    after: &State,
+) -> Committed
+    requires rows { store.old.rows ≡ stored store.old.orphans saved.now }
+    requires beyond { (x : Reached) → IsReached (deed_of command.now) saved.now after.now x → IsBeyond x saved.now after.now }
+    requires offers { AreOffers after.now }
+    requires small { AreSmall after.now }
+    ensures rows { result ≡ Kept → store.new.rows ≡ stored store.old.orphans after.now }
+    ensures same { result ≢ Kept → store.new.rows ≡ store.old.rows }
+    ensures told { Are (K.tables store.old.place store.old.keeper) (texts_of store.old.rows) → Are (K.tables store.new.place store.new.keeper) (texts_of store.new.rows) }
+    ensures place { store.new.place ≡ store.old.place }
+    ensures orphans { store.new.orphans ≡ store.old.orphans }
+    ensures later { K.faults store.old.keeper ≤ K.faults store.new.keeper }
+    ensures cause { result ≡ Committed.Failed → Rose (K.faults store.old.keeper) (K.faults store.new.keeper) }
+{
+    match reached(alloc, command, saved, after) {
+        Err(_) => Committed::NoMemory,
+        Ok(None) => store.follow(alloc, after),
+        Ok(Some(reached)) => store.follow_reached(alloc, &reached, saved.state(), after),
+    }
+}
+
 // Does what a command says, and has the store follow. Where the keeper fails, which is counted, or memory lacks, all is as before.
 fn follow<L: Layers, K: Keeper>(
     alloc: Global,
@@ -148,8 +195,9 @@ fn follow<L: Layers, K: Keeper>(
     let Ok(saved) = catalogue.saved(alloc) else {
         return Reply::Refused(CoreFault::NoMemory);
     };
+    let _before = saved.state();
     let reply = act(alloc, catalogue, command, now);
-    match store.follow(alloc, catalogue.view()) {
+    match keep(alloc, store, command, &saved, catalogue.sound_state()) {
         Committed::Kept => reply,
         Committed::Failed => {
             catalogue.put_back(saved);
@@ -219,6 +267,7 @@ impl<'a, L: Layers, C: Clock, K: Keeper> Desk<Done<'a, L>, Stitched<'a, L>> for 
         ensures store { self.new.store ≡ self.old.store }
     {
         let now = self.clock.now();
+        prepare(alloc, &mut self.catalogue, ask);
         write_ask(alloc, &self.catalogue, ask, now, out)
     }
 }

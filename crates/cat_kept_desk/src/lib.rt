@@ -1,13 +1,14 @@
 //! A desk whose catalogue is kept in a store.
 //!
 //! What a command changes of what is stored is committed as one batch before it is answered; a command whose change the keeper refuses is
-//! answered `CoreFault::Keeper`, it is counted, and the catalogue is as before it. A settle is one change. What leaves the stored rows as they are
-//! asks nothing of the keeper.
+//! answered `CoreFault::Keeper`, it is counted, and the catalogue is as before it. A settle is one change, for which all rows are made and compared; for
+//! any other command only those are that it reached (cat_reached). What leaves the stored rows as they are asks nothing of the keeper.
 //!
 //! It stands on cat_desk for what a command does, on cat_fed for the feed, and on cat_store for the store. It carries the promise that between two
 //! commands a keeper that tells its tables holds those of the catalogue's state, and that the keeper's fault is answered only where it counted one.
 #![tactic(auto)]
 
 pub mod desk;
+mod reaching;
 
 pub use desk::KeptDesk;

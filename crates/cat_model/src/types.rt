@@ -6,6 +6,7 @@ use crate::rows::IndexedRows;
 use cat_items::items::OfferedItems;
 use cat_marks::marks::Marks;
 use cat_ref::reference::Ref;
+use cat_search::index::Index;
 use cat_table::listing::{Copied, Listing};
 use cat_table::map::Map;
 use cat_tree::text::Text;
@@ -90,7 +91,7 @@ pub struct State {
     pub records: Records,
     pub orphans: Map<Ref, Orphan>,
     pub marks: Marks,
-    pub documents: Map<Ref, Node>,
+    pub documents: Index,
     pub arrival: u64,
     pub number: u64,
     pub token: u64,
@@ -312,7 +313,7 @@ impl State {
     }
 
     // The orphans, the marks and the documents, shared.
-    fn share_outcomes(&self) -> Result<(Map<Ref, Orphan>, Marks, Map<Ref, Node>), AllocError>
+    fn share_outcomes(&self) -> Result<(Map<Ref, Orphan>, Marks, Index), AllocError>
         ensures { IfOk result (λ r. r ≡ (self.now.orphans, self.now.marks, self.now.documents)) }
     {
         let orphans = self.orphans.share()?;

@@ -14,6 +14,7 @@ use cat_ref::reference::Ref;
 use cat_rows::row::{
     OrphanRule as StoredRule, StoredCounter, StoredOffer, StoredOutput, StoredRow,
 };
+use cat_search::index::Index;
 use cat_table::listing::{Copied, Listing};
 use cat_table::map::Map;
 use cat_tree::text::Text;
@@ -42,7 +43,7 @@ pub fn empty_state(alloc: Global) -> State
         records: Records::new(),
         orphans: Map::new(),
         marks: Marks::new(),
-        documents: Map::new(),
+        documents: Index::empty(),
         arrival: 1,
         number: 1,
         token: 1,
@@ -740,7 +741,7 @@ pub fn state_of(alloc: Global, rows: &[StoredRow]) -> Result<State, AllocError>
         records: records_of(alloc, &trees, rows)?,
         orphans: orphans_of(alloc, rows)?,
         marks: Marks::new(),
-        documents: Map::new(),
+        documents: Index::empty(),
         arrival: next.arrival,
         number: next.number,
         token: 1,

@@ -1,4 +1,3 @@
-pub mod Ordered
 pub mod Kept
 pub mod Parted
 pub mod Spelled

@@ -14,7 +14,7 @@ use Rattle.cat_ref.specs.Reference.{parsed}
 use Rattle.cat_tree.specs.View.{data_of}
 use Rattle.cat_tree.specs.declared.tree.Tree.{Tree}
 use Rattle.cat_query.specs.Cursor.{IsCursor, IsNamed, cursor_data, cursor_text, value_data}
-use Rattle.cat_query.specs.declared.query.Cursor.{Cursor}
+use Rattle.cat_pages.specs.declared.query.Cursor.{Cursor}
 
 pub not_decoded : (text : List ℕ) → ((b : List ℕ) → decode_of url_safe_no_pad text ≡ Ok b → ⊥) → (c : Cursor) → IsCursor text c → ⊥
 not_decoded text h c k = h k.bytes k.decodes

@@ -6,9 +6,9 @@ use Rattle.serde_json.specs.Written.{items_text}
 use Rattle.cat_tree.specs.Data.{Data, dict, items_of, list, member, no_members}
 use Rattle.cat_tree.specs.Text.{json_items, text_of}
 use Rattle.cat_query.specs.Answers.{IsKept, facets_in, page_info, page_shown, shown}
-use Rattle.cat_query.specs.Page.{Pair}
+use Rattle.cat_pages.specs.Page.{Pair}
 use Rattle.cat_query.specs.Project.{Path}
-use Rattle.cat_query.specs.declared.query.Cursor.{Cursor}
+use Rattle.cat_pages.specs.declared.query.Cursor.{Cursor}
 
 -- what is kept of what is kept is kept
 pub kept_on : (a b c : List ℕ) → IsKept a b → IsKept b c → IsKept a c

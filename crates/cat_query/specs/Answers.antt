@@ -2,12 +2,12 @@
 use Rattle.std.specs.Prelude.{◌≡◌, ℕ, pos, List, [], ◌∷◌, length, take, map, codes, Option, Some, None}
 use Rattle.cat_tree.specs.Data.{Data, null, whole, words, list, dict, no_members, member, items_of}
 use Rattle.cat_table.specs.Table.{get}
-use Rattle.cat_query.specs.Page.{Pair, Ranked, matching, following, page_items, next_after, total_of}
+use Rattle.cat_pages.specs.Page.{Pair, Ranked, matching, following, page_items, next_after, total_of}
 use Rattle.cat_query.specs.Project.{Path, projected}
 use Rattle.cat_query.specs.Cursor.{cursor_text}
 use Rattle.cat_query.specs.Facets.{facets_data}
-use Rattle.cat_query.specs.declared.query.Cursor.{Cursor}
-use Rattle.cat_query.specs.declared.query.Query.{Query}
+use Rattle.cat_pages.specs.declared.query.Cursor.{Cursor}
+use Rattle.cat_pages.specs.declared.query.Query.{Query}
 
 -- ---- lists
 

@@ -9,7 +9,7 @@ use Rattle.cat_tree.specs.Data.{Data, null, words, list, no_items, item}
 use Rattle.cat_tree.specs.Read.{ReadsAs}
 use Rattle.cat_tree.specs.Text.{text_of}
 use Rattle.cat_ref.specs.Reference.{parsed}
-use Rattle.cat_query.specs.declared.query.Cursor.{Cursor}
+use Rattle.cat_pages.specs.declared.query.Cursor.{Cursor}
 
 -- the value, or null where there is none
 abbrev pub value_data : Option (List ℕ) → Data

@@ -7,7 +7,7 @@ use Rattle.cat_table.specs.Table.{Map, get, put, text_cmp}
 use Rattle.cat_table.specs.Order.{in_order}
 use Rattle.cat_search.specs.Rows.{document_rows, values_at}
 use Rattle.cat_search.specs.declared.condition.Condition.{Condition}
-use Rattle.cat_query.specs.Page.{Pair, matching}
+use Rattle.cat_pages.specs.Page.{Pair, matching}
 
 -- one more at the text
 abbrev pub one_more : List ℕ → Map ℕ → Map ℕ

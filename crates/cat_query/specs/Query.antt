@@ -8,7 +8,7 @@ use Rattle.cat_search.specs.Filter.{filter_of, pieces}
 use Rattle.cat_search.specs.declared.condition.Condition.{Condition}
 use Rattle.cat_search.specs.declared.condition.FilterFault.{FilterFault}
 use Rattle.cat_search.specs.declared.condition.FilterFault.TheVariants.{EmptyKey, NoMemory as FilterNoMemory}
-use Rattle.cat_query.specs.declared.query.OrderBy.{OrderBy}
+use Rattle.cat_pages.specs.declared.query.OrderBy.{OrderBy}
 use Rattle.cat_query.specs.declared.fault.QueryFault.{QueryFault}
 use Rattle.cat_query.specs.declared.fault.QueryFault.TheVariants.{Filter, BadOrder, BadLimit, NoMemory}
 

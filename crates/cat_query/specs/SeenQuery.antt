@@ -1,6 +1,6 @@
 -- What a query of the code asks for.
 use Rattle.cat_query.specs.Query.{Asked}
-use Rattle.cat_query.specs.declared.query.Query.{Query}
+use Rattle.cat_pages.specs.declared.query.Query.{Query}
 
 -- all but the cursor
 abbrev pub asked : Query → Asked

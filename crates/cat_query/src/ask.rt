@@ -1,5 +1,5 @@
 //! What is asked of a catalogue.
-use crate::query::Query;
+use cat_pages::query::Query;
 use cat_ref::reference::Ref;
 use cat_table::listing::Listing;
 use cat_tree::text::Text;

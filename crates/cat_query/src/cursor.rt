@@ -8,12 +8,12 @@ ghost use Rattle.cat_tree.specs.Text.{text_of};
 ghost use Rattle.cat_tree.specs.View.{data_of};
 ghost use Rattle.cat_ref.specs.Reference.{parsed};
 ghost use Rattle.cat_query.specs.Cursor.{CursorIs, HasNoCursor, IsCursor, IsNamed, cursor_data, cursor_text, value_data};
-ghost use Rattle.cat_query.specs.declared.query.Cursor.{Cursor as CursorData};
+ghost use Rattle.cat_pages.specs.declared.query.Cursor.{Cursor as CursorData};
 
 use crate::fault::QueryFault;
-use crate::query::Cursor;
 use base64::DecodeAllocError;
 use base64::engine::general_purpose::URL_SAFE_NO_PAD;
+use cat_pages::query::Cursor;
 use cat_ref::fault::RefFault;
 use cat_ref::reference::{Ref, parse};
 use cat_tree::read::{TreeFault, read};

@@ -6,11 +6,11 @@ ghost use Rattle.cat_search.specs.Rows.{document_rows, values_at};
 ghost use Rattle.cat_table.specs.Order.{in_order};
 ghost use Rattle.cat_tree.specs.View.{data_of, entry_of};
 ghost use Rattle.cat_table.specs.Table.{get, keys, tabulate, text_cmp};
-ghost use Rattle.cat_query.specs.Page.{pair_seen};
+ghost use Rattle.cat_pages.specs.Page.{pair_seen};
 ghost use Rattle.cat_query.specs.Facets.{all_more, count_data, counts, facet_data, facet_map, facets_data, how_many, one_more, values_among};
 
-use crate::documents::Documents;
-use crate::query::Query;
+use cat_pages::documents::Documents;
+use cat_pages::query::Query;
 use cat_ref::reference::Ref;
 use cat_search::values::values_at;
 use cat_table::listing::Copied;

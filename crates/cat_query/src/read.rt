@@ -8,7 +8,7 @@ use crate::cursor::cursor;
 use crate::fault::QueryFault;
 use crate::parameters::{parameters, values_named};
 use crate::parts::{copies, fields, filters, limit, order};
-use crate::query::{Cursor, OrderBy, Query};
+use cat_pages::query::{Cursor, OrderBy, Query};
 use cat_search::condition::Filter;
 use cat_table::listing::Listing;
 use cat_tree::text::Text;

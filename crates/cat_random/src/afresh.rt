@@ -8,7 +8,7 @@ use std::alloc::{AllocError, Global};
 pub fn are_fresh(alloc: Global, state: &State) -> Result<bool, AllocError> {
     let fresh = documents_afresh(alloc, &Layered, state)?;
     let mut count = 0usize;
-    for (reference, document) in state.documents.iter() {
+    for (reference, document) in state.documents.documents().iter() {
         if state.orphans.get(reference).is_none() {
             match fresh.get(reference) {
                 Some(other) if other.same(document) => count = count.saturating_add(1),

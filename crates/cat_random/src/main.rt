@@ -65,9 +65,13 @@ fn count(
     Ok(())
 }
 
-// The line of a session.
-fn session(alloc: Global, seed: u64, events: u64) -> Result<String, AllocError> {
-    let mut catalogue = empty(alloc, seed);
+// The line of a session over a catalogue.
+fn told(
+    alloc: Global,
+    catalogue: &mut Catalogue<Layered>,
+    seed: u64,
+    events: u64,
+) -> Result<String, AllocError> {
     let mut draws = Draws::new(seed);
     let mut tally = Tally {
         acted: 0,
@@ -76,8 +80,8 @@ fn session(alloc: Global, seed: u64, events: u64) -> Result<String, AllocError> 
         fresh: true,
     };
     for number in 0..events {
-        let came = event(alloc, &mut catalogue, number, &mut draws)?;
-        count(alloc, &catalogue, came, &mut tally)?;
+        let came = event(alloc, catalogue, number, &mut draws)?;
+        count(alloc, catalogue, came, &mut tally)?;
     }
     let Tally {
         acted,
@@ -89,6 +93,14 @@ fn session(alloc: Global, seed: u64, events: u64) -> Result<String, AllocError> 
     let orphans = catalogue.view().orphans.len();
     let word = if fresh { "fresh" } else { "differs" };
     format!(in alloc; "{seed}: {acted} {refused} {settled} {documents} {orphans} {word}\n")
+}
+
+// The line of a session.
+fn session(alloc: Global, seed: u64, events: u64) -> Result<String, AllocError> {
+    let mut catalogue = empty(alloc, seed);
+    let line = told(alloc, &mut catalogue, seed, events);
+    drop(catalogue);
+    line
 }
 
 // A line for each line.

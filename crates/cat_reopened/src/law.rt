@@ -51,7 +51,7 @@ pub fn stores_reopen()
     ensures read_first { (rules : Rules) (m n : State) → IsTold m → IsTold n → IsPlaced m → AreFirstNarrow n → IsReopened rules n → IsRead (texts_of (first m)) n → n ≡ reopened rules m }
 {}
 
-/// What is promised of a state that a store opens as (`cat_store::open`: `tells`, `tells_first`, `again`, `read`) makes it what the store's state opens again
+/// What is promised of a state that a store opens as (`cat_store::open`: `opening`, `read`) makes it what the store's state opens again
 /// as, in either version.
 pub fn what_is_read_opens()
     ensures { (rules : Rules) (rows : Rows) (n : State) → IsTold n → AreFirstNarrow n → IsReopened rules n → IsRead rows n → OpensAs rules rows n }

@@ -15,7 +15,7 @@ use Rattle.cat_query.specs.Query.{parameters_of, values_named}
 use Rattle.cat_query.specs.declared.ask.Ask.{Ask}
 use Rattle.cat_query.specs.declared.ask.Ask.TheVariants as ask
 use Rattle.cat_query.specs.declared.fault.QueryFault.{QueryFault}
-use Rattle.cat_query.specs.declared.query.Query.{Query}
+use Rattle.cat_pages.specs.declared.query.Query.{Query}
 use Rattle.cat_commands.specs.Arguments.{utf8_in}
 use Rattle.cat_commands.specs.Queries.{query_of}
 use Rattle.cat_http.specs.declared.message.Message.{Message}

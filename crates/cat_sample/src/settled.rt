@@ -27,12 +27,15 @@ fn filled<L: Layers + Drop>(
     ensures state { IfOk result (λ c. c.state ≡ sample_state L.rules settings seed count) }
     ensures settings { IfOk result (λ c. c.settings ≡ settings) }
 {
-    let mut catalogue = Catalogue::empty(alloc, layers, settings);
     let provider = Text::of(alloc, "sample")?;
     let mutation = mutation(alloc, seed, count)?;
+    let mut catalogue = Catalogue::empty(alloc, layers, settings);
     match catalogue.mutate(alloc, &provider, &mutation) {
         Ok(_) => Ok(catalogue),
-        Err(_) => Err(AllocError),
+        Err(_) => {
+            drop(catalogue);
+            Err(AllocError)
+        }
     }
 }
 

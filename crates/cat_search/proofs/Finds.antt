@@ -1,19 +1,20 @@
 -- That the references which are found through the lists are those of the documents that are accepted.
-use Rattle.std.proofs.Common.{T, ◌≡◌, ℕ, zero, suc, ◌<◌, ◌≤◌, Bool, true, false, cond, ◌&&◌, ◌||◌, ◌==◌, List, [], ◌∷◌, length, map, get_or, Option, Some, None, Ordering, Less, Equal, Greater, refl, sym, ap, ◌∙◌, true≢false, arith}
+use Rattle.std.proofs.Common.{T, ◌≡◌, ℕ, zero, suc, ◌<◌, ◌≤◌, Bool, true, false, cond, not, ◌&&◌, ◌||◌, ◌==◌, List, [], ◌∷◌, length, map, get_or, Option, Some, None, Ordering, Less, Equal, Greater, refl, sym, ap, ◌∙◌, true≢false, arith}
 use Rattle.std.specs.Prelude.{is_some, option_map, unwrap_or, bytes_eq, Result, Ok, Err, IfOk, OnOk, is_ok}
 use Rattle.std.specs.List.{filter, list_any, list_all}
 use Rattle.std.specs.Ordering.{eq_by_cmp, is_eq, ordering_then, is_lt}
 use Rattle.std.specs.FinMap.Entries.{find-put, find-where_key, is_sorted, is_sorted-where_key, below_all, same_entries}
 use Rattle.std.proofs.lemmas.Map.Text.{is_eq-slice_cmp}
 use Rattle.cat_tree.specs.Data.{Data}
+use Rattle.cat_table.specs.Rows.{without}
 use Rattle.cat_table.specs.Table.{Map, get, keys, put, puts, text_cmp, text_total, text_antisymmetric}
 use Rattle.cat_table.proofs.Rising.{puts_rise, from_T}
 use Rattle.cat_search.specs.Rows.{Row, folded, same_text, fits, has_row, document_rows}
 use Rattle.cat_search.specs.Filter.{holds, key_holds, accepts, is_match, is_accepted}
 use Rattle.cat_search.specs.Terms.{term, condition_term, terms, document_terms}
-use Rattle.cat_search.specs.Index.{Set, Lists, has, term_cmp, set_at, has_term, AreLists, union, in_all, common, at_key, by_key, accepted, all_accepted, found, has_free, accepts_all}
+use Rattle.cat_search.specs.Index.{Set, Lists, has, term_cmp, set_at, has_term, AreLists, AgreeBeyond, union, in_all, common, at_key, by_key, accepted, all_accepted, is_accepted_at, corrected_at, corrected, found, has_free, accepts_all}
 use Rattle.cat_search.specs.declared.condition.Condition.{Condition}
-use Rattle.cat_search.proofs.Listed.{same, text_is, has-put, longer}
+use Rattle.cat_search.proofs.Listed.{same, text_is, has-put, has-without, either_false, longer}
 
 pub to_T : (b : Bool) → b ≡ true → T b
 to_T true h = tt
@@ -342,26 +343,69 @@ module _ (p : Data → Bool) where
   all_passing h [] = refl
   all_passing h (e ∷ es) = ap (λ c. cond c (e ∷ passing es) (passing es)) (h e.1) ∙ ap (λ l. e ∷ l) (all_passing h es)
 
--- ---- the whole
+-- ---- the correction
 
-either_false : (a b : Bool) → (a || b) ≡ false → (a ≡ false) × (b ≡ false)
-either_false true b e = absurd (true≢false e)
-either_false false b e = (refl, e)
+or_where : (a h : Bool) → (a || h) ≡ cond a true h
+or_where true h = refl
+or_where false h = refl
+
+unless : (a h : Bool) → (not a && h) ≡ cond a false h
+unless true h = refl
+unless false h = refl
+
+has-corrected_at : (fs : List (List Condition)) (docs : Map Data) (r : List ℕ) (s : Set) (q : List ℕ)
+    → has (corrected_at fs docs r s) q ≡ cond (same q r) (is_accepted_at fs docs r) (has s q)
+has-corrected_at fs docs r s q = go (is_accepted_at fs docs r)
+  where
+    go : (b : Bool) → has (cond b (put text_cmp r (tt {0}) s) (without text_cmp r s)) q ≡ cond (same q r) b (has s q)
+    go true = has-put r (tt {0}) s q ∙ or_where (same q r) (has s q)
+    go false = has-without r s q ∙ unless (same q r) (has s q)
+
+-- a pending reference is found where its document is accepted, and another where it was
+has-corrected : (fs : List (List Condition)) (docs : Map Data) (pending s : Set) (q : List ℕ)
+    → has (corrected fs docs pending s) q ≡ cond (has pending q) (is_accepted_at fs docs q) (has s q)
+has-corrected fs docs [] s q = refl
+has-corrected fs docs (e ∷ es) s q =
+    has-corrected fs docs es (corrected_at fs docs e.0 s) q
+    ∙ ap (cond (has es q) (is_accepted_at fs docs q)) (has-corrected_at fs docs e.0 s q)
+    ∙ go (same q e.0) refl (get es q)
+  where
+    go : (b : Bool) → same q e.0 ≡ b → (x : Option (Unit {0}))
+        → cond (is_some x) (is_accepted_at fs docs q) (cond b (is_accepted_at fs docs e.0) (has s q)) ≡ cond (is_some (cond b (Some e.1) x)) (is_accepted_at fs docs q) (has s q)
+    go true i None = ap (is_accepted_at fs docs) (sym (text_is q e.0 i))
+    go true i (Some u) = refl
+    go false i x = refl
+
+-- ---- the whole
 
 accepted_at : (fs : List (List Condition)) (x : Option Data) → (length fs == 0) ≡ false → has_free fs ≡ false
     → list_any (λ cs. accepts cs (unwrap_or (option_map document_rows x) [])) fs ≡ unwrap_or (option_map (is_accepted fs) x) false
 accepted_at fs None l h = none_accepted fs h
 accepted_at fs (Some d) l h = ap (λ b. b || list_any (λ cs. is_match cs d) fs) (sym l)
 
+-- where a reference is found, once corrected, its document is accepted
+found_at : (docs listed : Map Data) (pending : Set) (lists : Lists) (fs : List (List Condition)) → AreLists listed lists → AgreeBeyond pending docs listed
+    → (length fs == 0) ≡ false → has_free fs ≡ false → (q : List ℕ)
+    → cond (has pending q) (is_accepted_at fs docs q) (has (all_accepted lists fs []) q) ≡ is_accepted_at fs docs q
+found_at docs listed pending lists fs are agree l h q = go (has pending q) refl
+  where
+    go : (b : Bool) → has pending q ≡ b → cond b (is_accepted_at fs docs q) (has (all_accepted lists fs []) q) ≡ is_accepted_at fs docs q
+    go true e = refl
+    go false e =
+        has-all_accepted listed lists are fs [] q h
+        ∙ accepted_at fs (get listed q) l h
+        ∙ ap (λ x. unwrap_or (option_map (is_accepted fs) x) false) (sym (agree q e))
+
 -- what is found for filters with conditions
-pub found_keys : (docs : Map Data) (lists : Lists) (fs : List (List Condition)) → AreLists docs lists → is_sorted text_cmp docs ≡ true → is_sorted text_cmp (all_accepted lists fs []) ≡ true
-    → accepts_all fs ≡ false → keys (all_accepted lists fs []) ≡ found fs docs
-found_keys docs lists fs are g h free =
+pub found_keys : (docs listed : Map Data) (pending : Set) (lists : Lists) (fs : List (List Condition)) → AreLists listed lists × AgreeBeyond pending docs listed
+    → is_sorted text_cmp docs ≡ true → is_sorted text_cmp (corrected fs docs pending (all_accepted lists fs [])) ≡ true
+    → accepts_all fs ≡ false → keys (corrected fs docs pending (all_accepted lists fs [])) ≡ found fs docs
+found_keys docs listed pending lists fs are g h free =
     let both = either_false (length fs == 0) (has_free fs) free in
     let kept : Map Data = filter (λ e. is_accepted fs e.1) docs in
-    ap keys (same_sets (all_accepted lists fs []) (as_set kept) h (sorted_as_set kept ∙ sorted_passing (is_accepted fs) docs g)
-    (λ q. has-all_accepted docs lists are fs [] q both.1
-    ∙ accepted_at fs (get docs q) both.0 both.1
+    ap keys (same_sets (corrected fs docs pending (all_accepted lists fs [])) (as_set kept) h (sorted_as_set kept ∙ sorted_passing (is_accepted fs) docs g)
+    (λ q. has-corrected fs docs pending (all_accepted lists fs []) q
+    ∙ found_at docs listed pending lists fs are.0 are.1 both.0 both.1 q
     ∙ sym (has-as_set kept q ∙ has-passing (is_accepted fs) docs q g)))
     ∙ keys_as_set kept
 

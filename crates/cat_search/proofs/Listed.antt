@@ -1,5 +1,5 @@
 -- Which references stand under a term after a change, and that a change of a document keeps the lists those of the documents.
-use Rattle.std.proofs.Common.{◌≡◌, ℕ, suc, ◌==◌, length, arith, Bool, true, false, cond, not, ◌&&◌, ◌||◌, List, [], ◌∷◌, Option, Some, None, Ordering, refl, sym, ap, ◌∙◌}
+use Rattle.std.proofs.Common.{◌≡◌, ℕ, suc, ◌==◌, length, arith, Bool, true, false, cond, not, ◌&&◌, ◌||◌, List, [], ◌∷◌, Option, Some, None, Ordering, refl, sym, ap, ◌∙◌, true≢false}
 use Rattle.std.specs.Prelude.{is_some, option_map, unwrap_or}
 use Rattle.std.specs.Ordering.{eq_by_cmp}
 use Rattle.std.specs.FinMap.Entries.{find-put, find-where_key}
@@ -11,7 +11,7 @@ use Rattle.cat_table.specs.Pairs.{pair_total, pair_antisymmetric}
 use Rattle.cat_table.specs.Rows.{without}
 use Rattle.cat_table.specs.Table.{Map, find, get, put, text_cmp, text_total, text_antisymmetric}
 use Rattle.cat_table.proofs.Tables.{same_is}
-use Rattle.cat_search.specs.Index.{Set, Lists, has, term_cmp, set_at, terms_at, has_term, AreLists, with_set, entered, entered_all, struck, struck_all}
+use Rattle.cat_search.specs.Index.{Set, Lists, has, term_cmp, set_at, terms_at, has_term, AreLists, AgreeBeyond, with_document, with_set, entered, entered_all, struck, struck_all}
 use Rattle.cat_search.specs.Terms.{Term, document_terms}
 
 pub term_total : IsTotalOrder term_cmp
@@ -137,19 +137,23 @@ has-struck_all r (t ∷ ts) lists u q =
 
 -- ---- changes of a document
 
-terms_put : (b : Bool) (d : Data) (x : Option Data) → unwrap_or (option_map document_terms (cond b (Some d) x)) [] ≡ cond b (document_terms d) (unwrap_or (option_map document_terms x) [])
-terms_put true d x = refl
-terms_put false d x = refl
+none_at : (b : Bool) (y : Option Data) → cond (not b) y None ≡ cond b None y
+none_at true y = refl
+none_at false y = refl
 
-terms_gone : (b : Bool) (x : Option Data) → unwrap_or (option_map document_terms (cond (not b) x None)) [] ≡ cond b [] (unwrap_or (option_map document_terms x) [])
-terms_gone true x = refl
-terms_gone false x = refl
+-- what a reference has after a change of a document
+got : (r : List ℕ) (x : Option Data) (docs : Map Data) (q : List ℕ) → get (with_document r x docs) q ≡ cond (same q r) x (get docs q)
+got r None docs q = find-without text_total text_antisymmetric q r docs ∙ none_at (same q r) (get docs q)
+got r (Some d) docs q = find-put text_cmp text_total q r d docs
 
-terms_at-put : (r : List ℕ) (d : Data) (docs : Map Data) (q : List ℕ) → terms_at (put text_cmp r d docs) q ≡ cond (same q r) (document_terms d) (terms_at docs q)
-terms_at-put r d docs q = ap (λ o. unwrap_or (option_map document_terms o) []) (find-put text_cmp text_total q r d docs) ∙ terms_put (same q r) d (get docs q)
+terms_either : (b : Bool) (x y : Option Data)
+    → unwrap_or (option_map document_terms (cond b x y)) [] ≡ cond b (unwrap_or (option_map document_terms x) []) (unwrap_or (option_map document_terms y) [])
+terms_either true x y = refl
+terms_either false x y = refl
 
-terms_at-without : (r : List ℕ) (docs : Map Data) (q : List ℕ) → terms_at (without text_cmp r docs) q ≡ cond (same q r) [] (terms_at docs q)
-terms_at-without r docs q = ap (λ o. unwrap_or (option_map document_terms o) []) (find-without text_total text_antisymmetric q r docs) ∙ terms_gone (same q r) (get docs q)
+terms_got : (r : List ℕ) (x : Option Data) (docs : Map Data) (q : List ℕ)
+    → terms_at (with_document r x docs) q ≡ cond (same q r) (unwrap_or (option_map document_terms x) []) (terms_at docs q)
+terms_got r x docs q = ap (λ o. unwrap_or (option_map document_terms o) []) (got r x docs q) ∙ terms_either (same q r) x (get docs q)
 
 struck_here : (n o : Bool) → ((n && true) || (not (o && true) && o)) ≡ n
 struck_here true o = refl
@@ -176,9 +180,45 @@ moved docs lists r new are t q =
         ∙ struck_here (has_term t new) (has_term t (terms_at docs r))
     go false e = struck_elsewhere (has_term t new) (has_term t (terms_at docs r)) (has_term t (terms_at docs q))
 
-pub put_keeps : (docs : Map Data) (lists : Lists) (r : List ℕ) (d : Data) → AreLists docs lists
-    → AreLists (put text_cmp r d docs) (entered_all r (document_terms d) (struck_all r (terms_at docs r) lists))
-put_keeps docs lists r d are t q = moved docs lists r (document_terms d) are t q ∙ ap (has_term t) (sym (terms_at-put r d docs q))
+-- a reference with its terms struck and those of another document entered is listed with that document
+pub lists_keep : (docs listed : Map Data) (lists : Lists) (r : List ℕ) → AreLists listed lists
+    → AreLists (with_document r (get docs r) listed) (entered_all r (terms_at docs r) (struck_all r (terms_at listed r) lists))
+lists_keep docs listed lists r are t q = moved listed lists r (terms_at docs r) are t q ∙ ap (has_term t) (sym (terms_got r (get docs r) listed q))
 
-pub remove_keeps : (docs : Map Data) (lists : Lists) (r : List ℕ) → AreLists docs lists → AreLists (without text_cmp r docs) (struck_all r (terms_at docs r) lists)
-remove_keeps docs lists r are t q = moved docs lists r [] are t q ∙ ap (has_term t) (sym (terms_at-without r docs q))
+-- ---- the documents that wait
+
+pub either_false : (a b : Bool) → (a || b) ≡ false → (a ≡ false) × (b ≡ false)
+either_false true b e = absurd (true≢false e)
+either_false false b e = (refl, e)
+
+-- what holds of an index holds of one with the same parts
+pub same_index : (docs docs' : Map Data) (pending pending' : Set) (listed listed' : Map Data) (lists lists' : Lists)
+    → docs' ≡ docs → pending' ≡ pending → listed' ≡ listed → lists' ≡ lists
+    → AreLists listed lists × AgreeBeyond pending docs listed → AreLists listed' lists' × AgreeBeyond pending' docs' listed'
+same_index docs docs' pending pending' listed listed' lists lists' d p l s keep = (
+  (λ t q. ap (λ x. has (set_at x t) q) s ∙ keep.0 t q ∙ ap (λ x. has_term t (terms_at x q)) (sym l)),
+  (λ q h. ap (λ x. get x q) d ∙ keep.1 q (ap (λ x. has x q) (sym p) ∙ h) ∙ ap (λ x. get x q) (sym l)),
+)
+
+-- a document that is noted may change
+pub agree_noted : (pending : Set) (docs listed : Map Data) (r : List ℕ) (x : Option Data) → AgreeBeyond pending docs listed
+    → AgreeBeyond (put text_cmp r (tt {0}) pending) (with_document r x docs) listed
+agree_noted pending docs listed r x agree q h =
+    let apart = either_false (same q r) (has pending q) (sym (has-put r (tt {0}) pending q) ∙ h) in
+    got r x docs q ∙ ap (λ b. cond b x (get docs q)) apart.0 ∙ agree q apart.1
+
+-- once a document is listed, it need not be noted
+pub agree_listed : (pending : Set) (docs listed : Map Data) (r : List ℕ) → AgreeBeyond pending docs listed
+    → AgreeBeyond (without text_cmp r pending) docs (with_document r (get docs r) listed)
+agree_listed pending docs listed r agree q h =
+    go (same q r) refl (sym (has-without r pending q) ∙ h) ∙ sym (got r (get docs r) listed q)
+  where
+    go : (b : Bool) → same q r ≡ b → (not (same q r) && has pending q) ≡ false → get docs q ≡ cond (same q r) (get docs r) (get listed q)
+    go true e i = ap (get docs) (text_is q r e) ∙ ap (λ b. cond b (get docs r) (get listed q)) (sym e)
+    go false e i = agree q (ap (λ b. not b && has pending q) (sym e) ∙ i) ∙ ap (λ b. cond b (get docs r) (get listed q)) (sym e)
+
+-- where nothing waits, the lists are those of the documents
+pub all_listed : (pending : Set) (docs listed : Map Data) (lists : Lists) → AreLists listed lists → AgreeBeyond pending docs listed
+    → (length pending == 0) ≡ true → AreLists docs lists
+all_listed [] docs listed lists are agree h t q = are t q ∙ ap (λ o. has_term t (unwrap_or (option_map document_terms o) [])) (sym (agree q refl))
+all_listed (e ∷ es) docs listed lists are agree h t q = absurd (true≢false (sym h ∙ longer (length es)))

@@ -1,5 +1,5 @@
 -- The references of documents by term, and those that filters find.
-use Rattle.std.specs.Prelude.{◌≡◌, ℕ, List, [], ◌∷◌, length, map, Bool, ◌==◌, ◌||◌, if◌then◌else◌, is_some, option_map, unwrap_or}
+use Rattle.std.specs.Prelude.{◌≡◌, ℕ, List, [], ◌∷◌, length, map, Bool, false, Option, Some, None, ◌==◌, ◌||◌, if◌then◌else◌, is_some, option_map, unwrap_or}
 use Rattle.std.specs.List.{filter, filter_map, list_any, list_all}
 use Rattle.std.specs.Ordering.{eq_by_cmp}
 use Rattle.std.specs.declared.cmp.Ordering.{Ordering}
@@ -9,7 +9,7 @@ use Rattle.cat_table.specs.Places.{first_from}
 use Rattle.cat_table.specs.Rows.{without}
 use Rattle.cat_table.specs.Table.{Map, find, get, keys, put, puts, text_cmp}
 use Rattle.cat_search.specs.Rows.{folded}
-use Rattle.cat_search.specs.Filter.{matching}
+use Rattle.cat_search.specs.Filter.{is_accepted, matching}
 use Rattle.cat_search.specs.Terms.{Term, condition_term, document_terms}
 use Rattle.cat_search.specs.declared.condition.Condition.{Condition}
 
@@ -45,7 +45,16 @@ has_term t ts = list_any (eq_by_cmp term_cmp t) ts
 abbrev pub AreLists : Map Data → Lists → Type 0
 AreLists docs lists = (t : Term) (r : List ℕ) → has (set_at lists t) r ≡ has_term t (terms_at docs r)
 
+-- beyond these references, the documents are those that are listed
+abbrev pub AgreeBeyond : Set → Map Data → Map Data → Type 0
+AgreeBeyond pending docs listed = (r : List ℕ) → has pending r ≡ false → get docs r ≡ get listed r
+
 -- ---- changes
+
+-- the documents with this one at the reference, or with none there
+abbrev pub with_document : List ℕ → Option Data → Map Data → Map Data
+with_document r None docs = without text_cmp r docs
+with_document r (Some d) docs = put text_cmp r d docs
 
 -- these references under the term, which goes where there are none
 abbrev pub with_set : Term → Set → Lists → Lists
@@ -105,6 +114,19 @@ accepted lists cs = common (map (λ c. at_key (by_key lists cs) c.key) cs)
 abbrev pub all_accepted : Lists → List (List Condition) → Set → Set
 all_accepted lists [] s = s
 all_accepted lists (cs ∷ fs) s = all_accepted lists fs (union s (accepted lists cs))
+
+-- the reference has a document that one of the filters accepts
+abbrev pub is_accepted_at : List (List Condition) → Map Data → List ℕ → Bool
+is_accepted_at fs docs r = unwrap_or (option_map (is_accepted fs) (get docs r)) false
+
+-- the reference is among these just where its document is accepted
+abbrev pub corrected_at : List (List Condition) → Map Data → List ℕ → Set → Set
+corrected_at fs docs r s = if is_accepted_at fs docs r then put text_cmp r (tt {0}) s else without text_cmp r s
+
+-- each of the pending references is among these just where its document is accepted
+abbrev pub corrected : List (List Condition) → Map Data → Set → Set → Set
+corrected fs docs [] s = s
+corrected fs docs (e ∷ es) s = corrected fs docs es (corrected_at fs docs e.0 s)
 
 -- the references of the documents that one of the filters accepts, in order
 abbrev pub found : List (List Condition) → Map Data → List (List ℕ)

@@ -1,14 +1,15 @@
 //! Documents by reference, with the references under each term of their search rows.
-ghost use Rattle.std.specs.Prelude.{◌≡◌, [], IfOk, OnOk, OnErr, is_ok, length, map, option_map, slice_get, unwrap_or, if◌then◌else◌};
+ghost use Rattle.std.specs.Prelude.{◌≡◌, [], IfOk, IfSome, OnOk, is_ok, length, map, option_map, slice_get, unwrap_or, if◌then◌else◌};
 ghost use Rattle.std.specs.Arc.{arc_value};
 ghost use Rattle.cat_tree.specs.View.{data_of};
 ghost use Rattle.cat_table.specs.Rows.{without};
 ghost use Rattle.cat_table.specs.Table.{get, put, text_cmp};
 ghost use Rattle.cat_search.specs.Filter.{matching};
-ghost use Rattle.cat_search.specs.Index.{accepted, accepts_all, all_accepted, at_key, by_key, documents_of, entered, entered_all, found, has_free, set_at, struck, struck_all, terms_at, union, with_condition, with_set};
+ghost use Rattle.cat_search.specs.Index.{AreLists, accepted, accepts_all, all_accepted, at_key, by_key, documents_of, entered, entered_all, found, has_free, set_at, struck, struck_all, terms_at, union, with_condition, with_document, with_set};
 ghost use Rattle.cat_search.specs.Terms.{condition_term, document_terms};
 
 use crate::condition::{Condition, Filter};
+use crate::corrections::corrected;
 use crate::folded::lower;
 use crate::sets::{Set, common, union};
 use crate::terms::{Term, condition_term, document_terms};
@@ -22,13 +23,20 @@ use std::alloc::{AllocError, Global};
 use std::marker::Model;
 use std::sync::Arc;
 
-type Lists = Map<Term, Set>;
+/// The references under each term.
+pub type Lists = Map<Term, Set>;
 
-/// Documents by reference, and for each term of their search rows the references of the documents that have it. Contracts
-/// see the documents alone, in order of reference. A copy shares all of it.
+/// Documents by reference, and for each term of search rows the references of the documents that had it when they were last
+/// listed. A change of a document is noted and listed later, so it takes time by the logarithm of the number of documents,
+/// whatever the document is; what is found is corrected by the documents that wait. Contracts see the documents alone, in
+/// order of reference. A copy shares all of it.
 #[derive(Drop)]
 pub struct Index {
     documents: Map<Ref, Node>,
+    // those that the lists are of
+    listed: Map<Ref, Node>,
+    // the references whose document may be another than the listed one
+    pending: Set,
     lists: Lists,
 }
 
@@ -41,11 +49,11 @@ impl Model for Index {
 
     ghost coded = { coded_list (coded× (coded_list coded_ℕ) data_code) };
 
-    ghost use Rattle.cat_search.specs.Index.{AreLists};
+    ghost use Rattle.cat_search.specs.Index.{AgreeBeyond, AreLists};
 
     ghost view = { λ a. a.documents };
 
-    ghost invariant = { λ a. AreLists a.documents a.lists };
+    ghost invariant = { λ a. AreLists a.listed a.lists × AgreeBeyond a.pending a.documents a.listed };
 }
 
 impl Index {
@@ -55,6 +63,8 @@ impl Index {
     {
         Index {
             documents: Map::new(),
+            listed: Map::new(),
+            pending: Map::new(),
             lists: Map::new(),
         }
     }
@@ -80,43 +90,104 @@ impl Index {
         Some(self.documents.get(reference)?.tree())
     }
 
+    /// Lends the documents by reference.
+    pub fn documents(&self) -> &Map<Ref, Node>
+        ensures { result.now ≡ self.now }
+    {
+        &self.documents
+    }
+
+    // How many references wait to be listed.
+    fn pending(&self) -> usize {
+        self.pending.len()
+    }
+
+    /// Lends the references under each term of the documents; none where a reference waits to be listed.
+    pub fn lists(&self) -> Option<&Lists>
+        ensures { IfSome result (λ l. AreLists self.now l.now) }
+    {
+        if self.pending.is_empty() {
+            Some(&self.lists)
+        } else {
+            None
+        }
+    }
+
     /// A copy, which shares everything. Takes no memory.
     pub fn share(&self) -> Result<Index, AllocError>
         ensures { IfOk result (λ i. i ≡ self.now) }
     {
         Ok(Index {
             documents: self.documents.share()?,
+            listed: self.listed.share()?,
+            pending: self.pending.share()?,
             lists: self.lists.share()?,
         })
     }
+}
 
-    /// Puts the document of a reference, in place of a former one. Where memory is wanted, the index is as before. Copies of
-    /// the index stay as they are.
-    pub fn put(&mut self, alloc: Global, reference: &Ref, document: &Node) -> Result<(), AllocError>
-        ensures { self.new ≡ (if is_ok result then put text_cmp reference.now document.now self.old else self.old) }
+impl Index {
+    /// Puts the document of a reference, in place of a former one. It waits to be listed. Where memory is wanted, the index is
+    /// as before. Copies of the index stay as they are.
+    pub fn put(&mut self, alloc: Global, reference: Ref, document: Node) -> Result<(), AllocError>
+        ensures { self.new ≡ (if is_ok result then put text_cmp reference document self.old else self.old) }
     {
-        let mut lists = self.lists.share()?;
-        strike_former(alloc, &mut lists, &self.documents, reference)?;
-        enter_all(alloc, &mut lists, reference, document)?;
-        let mut documents = self.documents.share()?;
-        documents.put(alloc, reference.copy(alloc)?, document.duplicate(alloc)?)?;
-        *self = Index { documents, lists };
+        let pending = with_reference(alloc, &self.pending, &reference)?;
+        self.documents.put(alloc, reference, document)?;
+        self.pending = pending;
         Ok(())
     }
 
-    /// Removes the document of a reference, if there is one. Where memory is wanted, the index is as before. Copies of the
-    /// index stay as they are.
+    /// Removes the document of a reference, if there is one. The reference waits to be listed. Where memory is wanted, the
+    /// index is as before. Copies of the index stay as they are.
     pub fn remove(&mut self, alloc: Global, reference: &Ref) -> Result<(), AllocError>
         ensures { self.new ≡ (if is_ok result then without text_cmp reference.now self.old else self.old) }
     {
-        let mut lists = self.lists.share()?;
-        strike_former(alloc, &mut lists, &self.documents, reference)?;
-        let mut documents = self.documents.share()?;
-        documents.remove(alloc, reference)?;
-        *self = Index { documents, lists };
+        let pending = with_reference(alloc, &self.pending, reference)?;
+        self.documents.remove(alloc, reference)?;
+        self.pending = pending;
         Ok(())
     }
 
+    /// Lists at most so many of the documents that wait, in order of reference. Where memory is wanted, the others wait on.
+    pub fn list_pending(&mut self, alloc: Global, most: usize) -> Result<(), AllocError>
+        ensures { self.new ≡ self.old }
+    {
+        for _ in 0..most.min(self.pending()) {
+            self.list_first(alloc)?;
+        }
+        Ok(())
+    }
+
+    // Lists the first document that waits, if there is one. Where memory is wanted, it waits on.
+    fn list_first(&mut self, alloc: Global) -> Result<(), AllocError>
+        ensures { self.new ≡ self.old }
+    {
+        let Some((reference, _)) = self.pending.at(0) else {
+            return Ok(());
+        };
+        let next = self.relisted(alloc, reference)?;
+        *self = next;
+        Ok(())
+    }
+
+    // The index with the present document of a reference listed.
+    fn relisted(&self, alloc: Global, reference: &Ref) -> Result<Index, AllocError>
+        ensures { IfOk result (λ i. i ≡ self.now) }
+    {
+        let lists = relisted(alloc, &self.lists, &self.listed, &self.documents, reference)?;
+        let listed = with_present(alloc, &self.listed, &self.documents, reference)?;
+        let pending = without_reference(alloc, &self.pending, reference)?;
+        Ok(Index {
+            documents: self.documents.share()?,
+            listed,
+            pending,
+            lists,
+        })
+    }
+}
+
+impl Index {
     /// The references of the documents that one of the filters accepts, in order; without a filter those of all documents.
     pub fn find(&self, alloc: Global, filters: &[Filter]) -> Result<Vec<Ref>, AllocError>
         ensures { IfOk result (λ v. v.items ≡ found filters.now self.now) }
@@ -124,14 +195,13 @@ impl Index {
         if accepts_all(filters) {
             return Ok(self.documents.keys(alloc)?.into_vec());
         }
-        let found = all_accepted(alloc, &self.lists, filters)?;
+        let listed = all_accepted(alloc, &self.lists, filters)?;
+        let found = corrected(alloc, &self.documents, &self.pending, filters, listed)?;
         self.documents.in_order();
         found.in_order();
         Ok(found.keys(alloc)?.into_vec())
     }
-}
 
-impl Index {
     /// Lends the documents that one of the filters accepts, with their references, in order; without a filter all of them.
     pub fn matching(
         &self,
@@ -143,7 +213,8 @@ impl Index {
         if accepts_all(filters) {
             return all_entries(alloc, &self.documents);
         }
-        let found = all_accepted(alloc, &self.lists, filters)?;
+        let listed = all_accepted(alloc, &self.lists, filters)?;
+        let found = corrected(alloc, &self.documents, &self.pending, filters, listed)?;
         self.documents.in_order();
         found.in_order();
         documents_of(alloc, &self.documents, &found)
@@ -156,7 +227,46 @@ impl Copied for Index {
     }
 }
 
-// ---- changes of the lists
+// ---- changes
+
+// The references with this one.
+fn with_reference(alloc: Global, references: &Set, reference: &Ref) -> Result<Set, AllocError>
+    ensures { IfOk result (λ s. s ≡ put text_cmp reference.now (tt {0}) references.now) }
+{
+    let mut set = references.share()?;
+    set.put(alloc, reference.copy(alloc)?, ())?;
+    Ok(set)
+}
+
+// The references without this one.
+fn without_reference(alloc: Global, references: &Set, reference: &Ref) -> Result<Set, AllocError>
+    ensures { IfOk result (λ s. s ≡ without text_cmp reference.now references.now) }
+{
+    let mut set = references.share()?;
+    set.remove(alloc, reference)?;
+    Ok(set)
+}
+
+// The listed documents, with the document that the reference has at present, or with none of it.
+fn with_present(
+    alloc: Global,
+    listed: &Map<Ref, Node>,
+    documents: &Map<Ref, Node>,
+    reference: &Ref,
+) -> Result<Map<Ref, Node>, AllocError>
+    ensures { IfOk result (λ m. m ≡ with_document reference.now (get documents.now reference.now) listed.now) }
+{
+    let mut listed = listed.share()?;
+    match documents.get(reference) {
+        Some(document) => {
+            listed.put(alloc, reference.copy(alloc)?, document.duplicate(alloc)?)?;
+        }
+        None => {
+            listed.remove(alloc, reference)?;
+        }
+    }
+    Ok(listed)
+}
 
 // The references under a term.
 fn set_at(lists: &Lists, term: &Term) -> Result<Set, AllocError>
@@ -180,11 +290,7 @@ fn put_set(alloc: Global, lists: &mut Lists, term: &Term, set: Set) -> Result<()
 }
 
 // The set with the reference of the entry.
-fn with_reference(
-    alloc: Global,
-    set: Set,
-    entry: &Arc<(Ref, ()), Global>,
-) -> Result<Set, AllocError>
+fn with_entry(alloc: Global, set: Set, entry: &Arc<(Ref, ()), Global>) -> Result<Set, AllocError>
     ensures { IfOk result (λ s. s ≡ put text_cmp (arc_value entry.now).0 (tt {0}) set) }
 {
     let mut set = set;
@@ -201,7 +307,7 @@ fn enter(
 ) -> Result<(), AllocError>
     ensures { OnOk result (lists.new ≡ entered (arc_value entry.now).0 term lists.old) }
 {
-    let set = with_reference(alloc, set_at(lists, &term)?, entry)?;
+    let set = with_entry(alloc, set_at(lists, &term)?, entry)?;
     lists.put(alloc, term, set)
 }
 
@@ -243,22 +349,54 @@ fn strike_all(
     Ok(())
 }
 
-// The reference goes from under each term of the document that it has so far.
-fn strike_former(
+// The reference comes under each term of the document that it has at present.
+fn enter_present(
     alloc: Global,
     lists: &mut Lists,
     documents: &Map<Ref, Node>,
     reference: &Ref,
 ) -> Result<(), AllocError>
-    ensures { OnOk result (lists.new ≡ struck_all reference.now (terms_at documents.now reference.now) lists.old) }
+    ensures { OnOk result (lists.new ≡ entered_all reference.now (terms_at documents.now reference.now) lists.old) }
 {
     match documents.get(reference) {
+        Some(document) => enter_all(alloc, lists, reference, document),
+        None => Ok(()),
+    }
+}
+
+// The reference goes from under each term of the document that it is listed with.
+fn strike_listed(
+    alloc: Global,
+    lists: &mut Lists,
+    listed: &Map<Ref, Node>,
+    reference: &Ref,
+) -> Result<(), AllocError>
+    ensures { OnOk result (lists.new ≡ struck_all reference.now (terms_at listed.now reference.now) lists.old) }
+{
+    match listed.get(reference) {
         Some(document) => {
             let terms = document_terms(alloc, document.tree())?;
             strike_all(alloc, lists, terms.as_slice(), reference)
         }
         None => Ok(()),
     }
+}
+
+// The lists with the reference under the terms of its present document, in place of those of the listed one.
+fn relisted(
+    alloc: Global,
+    lists: &Lists,
+    listed: &Map<Ref, Node>,
+    documents: &Map<Ref, Node>,
+    reference: &Ref,
+) -> Result<Lists, AllocError>
+    ensures { IfOk result (λ l. l ≡ entered_all reference.now (terms_at documents.now reference.now)
+        (struck_all reference.now (terms_at listed.now reference.now) lists.now)) }
+{
+    let mut lists = lists.share()?;
+    strike_listed(alloc, &mut lists, listed, reference)?;
+    enter_present(alloc, &mut lists, documents, reference)?;
+    Ok(lists)
 }
 
 // ---- finding

@@ -7,7 +7,8 @@
 //!
 //! The index keeps documents by reference, and lists each reference under the terms of its document: the key of each row,
 //! and the key with the value, in lower case (`specs/Terms.antt`). So what a filter finds is a matter of unions and
-//! intersections of lists (`specs/Index.antt`), and no document is looked into. Its copies share what they have in common.
+//! intersections of lists (`specs/Index.antt`), and no document is looked into but those that changed since they were listed:
+//! a change is noted at once, and listed when the index is told to. Its copies share what they have in common.
 //!
 //! The promise: a filter is read as its text says, a refusal names the first condition without a key, `matches` answers
 //! exactly whether a document's rows meet the filter, without memory, and the index finds just the documents that `matches`
@@ -15,6 +16,7 @@
 #![tactic(auto)]
 
 pub mod condition;
+pub mod corrections;
 pub mod document;
 pub mod folded;
 pub mod index;

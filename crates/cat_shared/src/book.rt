@@ -23,9 +23,7 @@ use cat_fed::desk::FeedAnswer;
 use cat_feed::change::Since;
 use cat_hold::layers::Layers;
 use cat_query::ask::Ask;
-use cat_ref::reference::Ref;
-use cat_table::map::Map;
-use cat_types::node::Node;
+use cat_search::index::Index;
 use std::alloc::{AllocError, Global};
 use std::marker::{Brand, PhantomData};
 
@@ -149,11 +147,19 @@ impl<L: Layers, B: TimedDesk<L>, N: Named> Book<L, B, N> {
         self.desk.ask_at(alloc, ask, out)
     }
 
+    /// Prepares the catalogue for a question. Contracts see no difference.
+    pub fn prepare(&mut self, alloc: Global, ask: &Ask)
+        ensures ledger { B.ledger self.new.desk ≡ B.ledger self.old.desk }
+        ensures journal { self.new.journal.items ≡ self.old.journal.items }
+    {
+        self.desk.prepare(alloc, ask);
+    }
+
     /// A copy of the documents, which shares them. It takes no memory.
-    pub fn documents(&self) -> Result<Map<Ref, Node>, AllocError>
+    pub fn documents(&self) -> Result<Index, AllocError>
         ensures { IfOk result (λ m. m ≡ (B.ledger self.now.desk).state.documents) }
     {
-        self.desk.catalogue().docs().share()
+        self.desk.catalogue().index().share()
     }
 
     /// Answers what changed since a place. Only what is answered `Written` changes `out`, by appending the text.

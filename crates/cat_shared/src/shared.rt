@@ -61,7 +61,7 @@ impl<'a, L: Layers, B: TimedDesk<L>, N: Named, R: Wait> SharedDesk<'a, L, B, N, 
         ensures answer { (text : List ℕ) × (out.new.items ≡ out.old.items ++ text) × SharedAsks L.rules N.settings N.opening ask.now self.old.pass self.new.pass result text }
         ensures same { result ≢ Asked.Written → out.new.items ≡ out.old.items }
     {
-        match at_turn(self.rt, self.turns, &mut self.pass, Copying) {
+        match at_turn(self.rt, self.turns, &mut self.pass, Copying { alloc, ask }) {
             Ok(documents) => write_shown(alloc, &documents, ask, out),
             Err(_) => Asked::NoMemory,
         }

@@ -63,6 +63,12 @@ pub trait TimedDesk<L: Layers> {
     fn catalogue(&self) -> &Catalogue<L>
         ensures { result.now ≡ ledger self.now };
 
+    /// Prepares the catalogue for a question, which may come later. Contracts see no difference.
+    fn prepare(&mut self, alloc: Global, ask: &Ask)
+        ensures ledger { ledger self.new ≡ ledger self.old }
+        ensures feed { feed self.new ≡ feed self.old }
+        ensures faults { faults self.new ≡ faults self.old };
+
     /// Answers a question. Only what is answered `Written` changes `out`, by appending the answer.
     fn ask_at(&mut self, alloc: Global, ask: &Ask, out: &mut Vec<u8>) -> Asked
         ensures answer { (text : List ℕ) × (out.new.items ≡ out.old.items ++ text)
@@ -111,6 +117,10 @@ impl<L: Layers, C: Clock> TimedDesk<L> for Fed<L, C> {
         self.timed().catalogue()
     }
 
+    fn prepare(&mut self, alloc: Global, ask: &Ask) {
+        Fed::prepare(self, alloc, ask);
+    }
+
     fn ask_at(&mut self, alloc: Global, ask: &Ask, out: &mut Vec<u8>) -> Asked {
         <Fed<L, C> as Desk<Done<'_, L>, Stitched<'_, L>>>::ask(self, alloc, ask, out)
     }
@@ -149,6 +159,10 @@ impl<L: Layers, C: Clock, K: Keeper> TimedDesk<L> for KeptDesk<L, C, K> {
 
     fn catalogue(&self) -> &Catalogue<L> {
         KeptDesk::catalogue(self)
+    }
+
+    fn prepare(&mut self, alloc: Global, ask: &Ask) {
+        KeptDesk::prepare(self, alloc, ask);
     }
 
     fn ask_at(&mut self, alloc: Global, ask: &Ask, out: &mut Vec<u8>) -> Asked {

@@ -16,9 +16,7 @@ use cat_fed::desk::FeedAnswer;
 use cat_feed::change::Since;
 use cat_hold::layers::Layers;
 use cat_query::ask::Ask;
-use cat_ref::reference::Ref;
-use cat_table::map::Map;
-use cat_types::node::Node;
+use cat_search::index::Index;
 use std::alloc::{AllocError, Global};
 
 /// A command is done under the number of a pass.
@@ -62,16 +60,20 @@ impl<'c, L: Layers, B: TimedDesk<L>, N: Named> Work<Book<L, B, N>> for Asking<'c
     }
 }
 
-/// A copy of the documents is taken.
+/// A copy of the documents is taken, for a question.
 #[derive(Drop)]
-pub(crate) struct Copying;
+pub(crate) struct Copying<'c> {
+    pub alloc: Global,
+    pub ask: &'c Ask,
+}
 
-impl<L: Layers, B: TimedDesk<L>, N: Named> Work<Book<L, B, N>> for Copying {
-    type Answer = Result<Map<Ref, Node>, AllocError>;
+impl<'c, L: Layers, B: TimedDesk<L>, N: Named> Work<Book<L, B, N>> for Copying<'c> {
+    type Answer = Result<Index, AllocError>;
 
     ghost does = { λ work before after answer. IfOk answer (λ m. m ≡ (B.ledger before.desk).state.documents) × (after.journal.items ≡ before.journal.items) };
 
-    fn on(self, book: &mut Book<L, B, N>) -> Result<Map<Ref, Node>, AllocError> {
+    fn on(self, book: &mut Book<L, B, N>) -> Result<Index, AllocError> {
+        book.prepare(self.alloc, self.ask);
         book.documents()
     }
 }

@@ -11,8 +11,8 @@ use cat_hold::parts::{Present, append};
 use cat_links::links::Links;
 use cat_model::types::State;
 use cat_ref::reference::Ref;
+use cat_search::index::Index;
 use cat_table::listing::{Copied, Listing};
-use cat_table::map::Map;
 use cat_types::node::Node;
 use std::alloc::{AllocError, Global};
 
@@ -55,18 +55,33 @@ impl<L: Layers> Gives<Ref, Node> for Stitched<'_, L> {
     }
 }
 
+// The documents that the function gives these references; a reference without one is left out.
+fn indexed<F: Gives<Ref, Node>>(alloc: Global, keys: &[Ref], f: &F) -> Result<Index, AllocError>
+    ensures { IfOk result (λ i. i ≡ tabulate text_cmp keys.now (F.gives f.now)) }
+{
+    let mut index = Index::empty();
+    let mut left = keys.len();
+    while left > 0 {
+        left -= 1;
+        if let Some(document) = f.give(alloc, &keys[left])? {
+            index.put(alloc, keys[left].duplicate(alloc)?, document)?;
+        }
+    }
+    Ok(index)
+}
+
 /// The document of each reference that has parts.
 pub fn documents_of<L: Layers>(
     alloc: Global,
     layers: &L,
     links: &Links,
     m: &State,
-) -> Result<Map<Ref, Node>, AllocError>
+) -> Result<Index, AllocError>
     requires linked { AreLinked L.rules links.now m.now }
     requires recorded { AreRecorded m.now }
     ensures { IfOk result (λ t. t ≡ tabulate text_cmp (known_refs m.now) (λ r. option_map L.rules.doc (parts L.rules m.now r))) }
 {
     let all = all_refs(alloc, m)?;
     let stitched = Stitched { layers, links, m };
-    tabulated(alloc, all.as_slice(), &stitched)
+    indexed(alloc, all.as_slice(), &stitched)
 }

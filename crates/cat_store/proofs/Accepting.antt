@@ -1,7 +1,10 @@
 -- What is asked before a store opens holds of the rows of a state that opens.
 use Rattle.std.proofs.Common.{T, ◌≡◌, ℕ, ◌≤◌, Bool, true, false, ◌&&◌, nat_le, List, [], refl, sym, ap, ◌∙◌, le-leb, true≢false}
+use Rattle.std.specs.Prelude.{IfOk}
 use Rattle.std.specs.declared.option.Option.{Option}
 use Rattle.std.specs.declared.option.Option.TheVariants.{None, Some}
+use Rattle.std.specs.declared.result.Result.{Result}
+use Rattle.std.specs.declared.result.Result.TheVariants.{Ok, Err}
 use Rattle.std.specs.Option.{option_map}
 use Rattle.cat_table.specs.Table.{get}
 use Rattle.cat_keeper.specs.Store.{Rows}
@@ -135,3 +138,8 @@ module _ (rules : Rules) (limit : ℕ) (rows : Rows) where
 
     pub refused_other : (n : State) → n ≡ reopened rules c.state → (rule : OrphanRule) → (is_first rows ≡ false → rule ≡ c.rule) → (texts_of (rows_in (is_first rows) rule n) ≡ rows → ⊥) → AreOfNone rules limit rows
     refused_other n opens rule ruled differs = λ m may are. differs (has_its_rows rules limit m may rows are c is n opens rule ruled)
+
+-- what is refused at any limit is refused at each
+pub at_limit : {A E : Type 0} (rules : Rules) (limit : ℕ) (rows : Rows) (came : Result (Option A) E) → IfOk came (λ o. o ≡ None → (other : ℕ) → AreOfNone rules other rows) → IfOk came (λ o. o ≡ None → AreOfNone rules limit rows)
+at_limit rules limit rows (Ok o) h = λ none. h none limit
+at_limit rules limit rows (Err e) h = h

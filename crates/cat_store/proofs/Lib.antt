@@ -7,3 +7,5 @@ pub mod Unstored
 pub mod Passes
 pub mod Accepting
 pub mod Naming
+pub mod Ruling
+pub mod Keeping

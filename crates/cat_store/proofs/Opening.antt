@@ -5,11 +5,12 @@ use Rattle.std.specs.declared.option.Option.{Option}
 use Rattle.std.specs.declared.option.Option.TheVariants.{None, Some}
 use Rattle.cat_events.specs.Coming.{IsSteady}
 use Rattle.cat_model.specs.Catalogue.{Rules}
+use Rattle.cat_model.specs.Sound.{AreBegun}
 use Rattle.cat_model.specs.Step.{reopened}
 use Rattle.cat_model.specs.declared.types.State.{State}
 use Rattle.cat_sound.specs.Candidate.{is_candidate}
 use Rattle.cat_sound.specs.declared.reopen.Opening.{Opening}
-use Rattle.cat_tables.specs.Told.{AreFirstNarrow, IsTold}
+use Rattle.cat_store.specs.Opened.{IsOpening}
 use Rattle.cat_store.specs.Tells.{is_telling}
 use Rattle.cat_store.proofs.Again.{reopens_as_itself}
 use Rattle.cat_store.proofs.Telling.{first_rows_narrow, is_told, passed}
@@ -19,28 +20,21 @@ pub still_holds : (P : Opening → Type 0) (found kept : Option Opening) → IfS
 still_holds P found None same h = tt
 still_holds P found (Some x) same h = subst (λ v. IfSome v P) same h
 
-module _ (rules : Rules) (found kept : Option Opening) (same : IfSome kept (λ x. found ≡ Some x)) (tells : IfSome kept (λ x. is_telling x.state ≡ true))
-    (steady : IfSome found (λ x. IsSteady rules x.links x.state)) where
-  pub kept_told : IfSome kept (λ x. IsTold x.state)
-  kept_told = go kept tells (still_holds (λ x. IsSteady rules x.links x.state) found kept same steady)
-    where
-      go : (v : Option Opening) → IfSome v (λ x. is_telling x.state ≡ true) → IfSome v (λ x. IsSteady rules x.links x.state) → IfSome v (λ x. IsTold x.state)
-      go None t s = tt
-      go (Some x) t s = is_told rules x.state s.sound s.small s.ordered (passed x.state t)
-
-  pub kept_first : IfSome kept (λ x. AreFirstNarrow x.state)
-  kept_first = go kept tells (still_holds (λ x. IsSteady rules x.links x.state) found kept same steady)
-    where
-      go : (v : Option Opening) → IfSome v (λ x. is_telling x.state ≡ true) → IfSome v (λ x. IsSteady rules x.links x.state) → IfSome v (λ x. AreFirstNarrow x.state)
-      go None t s = tt
-      go (Some x) t s = first_rows_narrow rules x.state s.sound s.small s.ordered (passed x.state t)
-
-  pub kept_again : (m : State) → IfSome found (λ x. x.state ≡ reopened rules m) → IfSome kept (λ x. reopened rules x.state ≡ x.state)
-  kept_again m is = go kept (still_holds (λ x. x.state ≡ reopened rules m) found kept same is) (still_holds (λ x. IsSteady rules x.links x.state) found kept same steady)
-    where
-      go : (v : Option Opening) → IfSome v (λ x. x.state ≡ reopened rules m) → IfSome v (λ x. IsSteady rules x.links x.state) → IfSome v (λ x. reopened rules x.state ≡ x.state)
-      go None e s = tt
-      go (Some x) e s = reopens_as_itself rules m x.state e s.sound s.ordered
+-- what is kept of what was found, where its rows tell it, is a state to begin with
+pub opening_kept : (rules : Rules) (m : State) (found kept : Option Opening) → IfSome kept (λ x. found ≡ Some x) → IfSome kept (λ x. is_telling x.state ≡ true)
+    → IfSome found (λ x. IsSteady rules x.links x.state) → IfSome found (λ x. AreBegun x.state) → IfSome found (λ x. x.state ≡ reopened rules m)
+    → IfSome kept (λ x. IsOpening rules x.links x.state)
+opening_kept rules m found None same tells steady begun is = tt
+opening_kept rules m found (Some x) same tells steady begun is =
+    let s : IsSteady rules x.links x.state = still_holds (λ y. IsSteady rules y.links y.state) found (Some x) same steady in
+    let opens : x.state ≡ reopened rules m = still_holds (λ y. y.state ≡ reopened rules m) found (Some x) same is in
+    record {
+      steady = s;
+      begun = still_holds (λ y. AreBegun y.state) found (Some x) same begun;
+      tells = is_told rules x.state s.sound s.small s.ordered (passed x.state tells);
+      tells_first = first_rows_narrow rules x.state s.sound s.small s.ordered (passed x.state tells);
+      again = reopens_as_itself rules m x.state opens s.sound s.ordered;
+    }
 
 -- where the candidate is a state and its rows tell what it opens as, it opens
 pub opens_told : (rules : Rules) (m : State) (found kept : Option Opening) → is_some found ≡ is_candidate m → IfSome found (λ x. x.state ≡ reopened rules m)

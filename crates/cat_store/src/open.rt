@@ -1,21 +1,19 @@
 //! Opening a store.
-ghost use Rattle.std.specs.Prelude.{◌≡◌, ◌≢◌, ◌↔◌, ◌≤◌, ◌&&◌, ◌⊎◌, IsTrue, false, true, IfErr, IfOk, IfSome, MatchOption, Option, nat_le, option_map};
+ghost use Rattle.std.specs.Prelude.{◌≡◌, ◌≢◌, ℕ, if◌then◌else◌, ◌↔◌, ◌≤◌, ◌&&◌, ◌⊎◌, IsTrue, false, true, IfErr, IfOk, IfSome, MatchOption, Option, nat_le, option_map};
 ghost use Rattle.std.specs.declared.option.Option.TheVariants.{None, Some};
 ghost use Rattle.cat_breaches.specs.First.{IsVerdict};
-ghost use Rattle.cat_events.specs.Coming.{IsSteady};
 ghost use Rattle.cat_io.specs.Causes.{Rose};
 ghost use Rattle.cat_keeper.specs.Answers.{Are, Stays};
 ghost use Rattle.cat_keeper.specs.Store.{applied};
-ghost use Rattle.cat_model.specs.Sound.{AreBegun};
 ghost use Rattle.cat_model.specs.Step.{reopened};
+ghost use Rattle.cat_opening.specs.Candidate.{IsCandidate};
 ghost use Rattle.cat_opening.specs.Forms.{has_forms};
 ghost use Rattle.cat_reopened.specs.Right.{AreOfNone};
 ghost use Rattle.cat_sound.specs.Candidate.{is_candidate};
-ghost use Rattle.cat_store.specs.Opened.{HasRule, IsRead, is_first, is_of_first, is_row_of_first, rows_in};
+ghost use Rattle.cat_store.specs.Opened.{HasRule, IsOpening, IsRead, is_first, is_of_first, is_row_of_first, rows_in};
 ghost use Rattle.cat_store.specs.Refused.{AreTheirs, IsDifference, IsDiffering, IsNamed, IsRefused};
 ghost use Rattle.cat_store.specs.Tells.{is_telling};
 ghost use Rattle.cat_tables.specs.Stored.{stored, texts_of};
-ghost use Rattle.cat_tables.specs.Told.{AreFirstNarrow, IsTold};
 
 use crate::store::{Store, commit};
 use crate::tells::is_telling;
@@ -29,6 +27,7 @@ use cat_links::links::Links;
 use cat_model::types::{OrphanRule, State};
 use cat_opening::candidate::candidate;
 use cat_opening::forms::has_forms;
+use cat_opening::types::Candidate;
 use cat_sound::reopen::{Opening, opened};
 use cat_tables::batch::batch_to;
 use cat_tables::first::first_rows;
@@ -115,8 +114,7 @@ fn rows_in(
 
 // The rule for orphans of a store, where this one was found among its rows: the first version has none, and keeps.
 fn stored_rule(is_first: bool, found: OrphanRule) -> OrphanRule
-    ensures first { is_first ≡ true → result ≡ OrphanRule.Keep }
-    ensures second { is_first ≡ false → result ≡ found }
+    ensures { result ≡ (if is_first then OrphanRule.Keep else found) }
 {
     if is_first { OrphanRule::Keep } else { found }
 }
@@ -187,11 +185,7 @@ fn told<L: Layers>(
     layers: &L,
     candidate: State,
 ) -> Result<Option<Opening>, AllocError>
-    ensures steady { IfOk result (λ o. IfSome o (λ x. IsSteady L.rules x.links x.state)) }
-    ensures begun { IfOk result (λ o. IfSome o (λ x. AreBegun x.state)) }
-    ensures tells { IfOk result (λ o. IfSome o (λ x. IsTold x.state)) }
-    ensures tells_first { IfOk result (λ o. IfSome o (λ x. AreFirstNarrow x.state)) }
-    ensures again { IfOk result (λ o. IfSome o (λ x. reopened L.rules x.state ≡ x.state)) }
+    ensures opening { IfOk result (λ o. IfSome o (λ x. IsOpening L.rules x.links x.state)) }
     ensures state { IfOk result (λ o. IfSome o (λ x. x.state ≡ reopened L.rules candidate)) }
     ensures opens { IfOk result (λ o. is_candidate candidate ≡ true → is_telling (reopened L.rules candidate) ≡ true → o ≢ None) }
 {
@@ -221,6 +215,53 @@ struct Found {
     orphans: OrphanRule,
 }
 
+// What rows stand for, where it keeps to its form and the limit.
+fn right_candidate<L: Layers>(
+    alloc: Global,
+    layers: &L,
+    rows: &StoredRows,
+    input_limit: u64,
+) -> Result<Option<Candidate>, AllocError>
+    ensures candidate { IfOk result (λ o. IfSome o (IsCandidate rows.now)) }
+    ensures opens { IfOk result (λ o. o ≡ None → AreOfNone L.rules input_limit rows.now) }
+{
+    let Some(candidate) = candidate(alloc, rows)? else {
+        return Ok(None);
+    };
+    if is_right(alloc, layers, &candidate.state, input_limit)? {
+        Ok(Some(candidate))
+    } else {
+        Ok(None)
+    }
+}
+
+// What the candidate that rows stand for opens as: none where the rows are those of no state that opens.
+fn found_as<L: Layers>(
+    alloc: Global,
+    layers: &L,
+    rows: &StoredRows,
+    candidate: Candidate,
+) -> Result<Option<Found>, AllocError>
+    requires { IsCandidate rows.now candidate }
+    ensures opening { IfOk result (λ o. IfSome o (λ x. IsOpening L.rules x.links x.state)) }
+    ensures rule { IfOk result (λ o. IfSome o (λ x. HasRule rows.now x.orphans x.state)) }
+    ensures opens { IfOk result (λ o. o ≡ None → (limit : ℕ) → AreOfNone L.rules limit rows.now) }
+{
+    let orphans = stored_rule(is_first(rows), candidate.rule);
+    let Some(opening) = told(alloc, layers, candidate.state)? else {
+        return Ok(None);
+    };
+    if are_rows_of(alloc, rows, orphans, &opening.state)? {
+        Ok(Some(Found {
+            state: opening.state,
+            links: opening.links,
+            orphans,
+        }))
+    } else {
+        Ok(None)
+    }
+}
+
 // What rows open as: none where they are those of no state that opens.
 fn found_in<L: Layers>(
     alloc: Global,
@@ -228,32 +269,14 @@ fn found_in<L: Layers>(
     rows: &StoredRows,
     input_limit: u64,
 ) -> Result<Option<Found>, AllocError>
-    ensures steady { IfOk result (λ o. IfSome o (λ x. IsSteady L.rules x.links x.state)) }
-    ensures begun { IfOk result (λ o. IfSome o (λ x. AreBegun x.state)) }
-    ensures tells { IfOk result (λ o. IfSome o (λ x. IsTold x.state)) }
-    ensures tells_first { IfOk result (λ o. IfSome o (λ x. AreFirstNarrow x.state)) }
-    ensures again { IfOk result (λ o. IfSome o (λ x. reopened L.rules x.state ≡ x.state)) }
+    ensures opening { IfOk result (λ o. IfSome o (λ x. IsOpening L.rules x.links x.state)) }
     ensures rule { IfOk result (λ o. IfSome o (λ x. HasRule rows.now x.orphans x.state)) }
     ensures opens { IfOk result (λ o. o ≡ None → AreOfNone L.rules input_limit rows.now) }
 {
-    let Some(candidate) = candidate(alloc, rows)? else {
+    let Some(candidate) = right_candidate(alloc, layers, rows, input_limit)? else {
         return Ok(None);
     };
-    if !is_right(alloc, layers, &candidate.state, input_limit)? {
-        return Ok(None);
-    }
-    let orphans = stored_rule(is_first(rows), candidate.rule);
-    let Some(opening) = told(alloc, layers, candidate.state)? else {
-        return Ok(None);
-    };
-    if !are_rows_of(alloc, rows, orphans, &opening.state)? {
-        return Ok(None);
-    }
-    Ok(Some(Found {
-        state: opening.state,
-        links: opening.links,
-        orphans,
-    }))
+    found_as(alloc, layers, rows, candidate)
 }
 
 // Reads rows, under this rule for orphans or else the stored one: none where they are those of no state that opens.
@@ -264,11 +287,7 @@ fn read<L: Layers>(
     orphans: Option<OrphanRule>,
     input_limit: u64,
 ) -> Result<Option<Reading>, AllocError>
-    ensures steady { IfOk result (λ o. IfSome o (λ x. IsSteady L.rules x.links x.state)) }
-    ensures begun { IfOk result (λ o. IfSome o (λ x. AreBegun x.state)) }
-    ensures tells { IfOk result (λ o. IfSome o (λ x. IsTold x.state)) }
-    ensures tells_first { IfOk result (λ o. IfSome o (λ x. AreFirstNarrow x.state)) }
-    ensures again { IfOk result (λ o. IfSome o (λ x. reopened L.rules x.state ≡ x.state)) }
+    ensures opening { IfOk result (λ o. IfSome o (λ x. IsOpening L.rules x.links x.state)) }
     ensures read { IfOk result (λ o. IfSome o (λ x. IsRead rows.now x.state)) }
     ensures rule { IfOk result (λ o. IfSome o (λ x. IfSome orphans (λ rule. x.orphans ≡ rule))) }
     ensures kept { IfOk result (λ o. IfSome o (λ x. orphans ≡ None → HasRule rows.now x.orphans x.state)) }
@@ -351,11 +370,7 @@ pub fn open<L: Layers, K: Keeper>(
     orphans: Option<OrphanRule>,
     input_limit: u64,
 ) -> Result<Opened<K>, (OpenFault, K)>
-    ensures steady { IfOk result (λ x. IsSteady L.rules x.links x.state) }
-    ensures begun { IfOk result (λ x. AreBegun x.state) }
-    ensures tells { IfOk result (λ x. IsTold x.state) }
-    ensures tells_first { IfOk result (λ x. AreFirstNarrow x.state) }
-    ensures again { IfOk result (λ x. reopened L.rules x.state ≡ x.state) }
+    ensures opening { IfOk result (λ x. IsOpening L.rules x.links x.state) }
     ensures read { IfOk result (λ x. IfSome (K.tables place keeper) (λ rows. IsRead rows x.state)) }
     ensures rule { IfOk result (λ x. IfSome orphans (λ rule. x.store.orphans ≡ rule)) }
     ensures kept { IfOk result (λ x. orphans ≡ None → IfSome (K.tables place keeper) (λ rows. HasRule rows x.store.orphans x.state)) }
@@ -391,7 +406,13 @@ pub fn open<L: Layers, K: Keeper>(
                 rows: reading.rows,
             },
         }),
-        Committed::Failed => Err((OpenFault::Keeper, keeper)),
-        Committed::NoMemory => Err((OpenFault::NoMemory, keeper)),
+        Committed::Failed => {
+            drop(reading);
+            Err((OpenFault::Keeper, keeper))
+        }
+        Committed::NoMemory => {
+            drop(reading);
+            Err((OpenFault::NoMemory, keeper))
+        }
     }
 }

@@ -2,6 +2,7 @@
 ghost use Rattle.std.specs.Prelude.{◌≡◌, ◌≢◌, ◌≤◌};
 ghost use Rattle.cat_io.specs.Causes.{Rose};
 ghost use Rattle.cat_keeper.specs.Answers.{Are, Commits};
+ghost use Rattle.cat_keeper.specs.Store.{applied};
 ghost use Rattle.cat_keeper.specs.declared.keeper.Committed.TheVariants.{Kept};
 ghost use Rattle.cat_keeper.specs.declared.keeper.Place.{Place};
 ghost use Rattle.cat_tables.specs.Stored.{stored, texts_of};
@@ -36,6 +37,27 @@ pub(crate) fn commit<K: Keeper>(alloc: Global, keeper: &mut K, batch: &Batch) ->
 }
 
 impl<K: Keeper> Store<K> {
+    // Has the keeper make the changes of a batch, which lead from the rows to these, and takes these in where they are kept.
+    pub(crate) fn take_in(&mut self, alloc: Global, rows: Stored, batch: &Batch) -> Committed
+        requires leads { applied batch.now (texts_of self.old.rows) ≡ texts_of rows }
+        ensures rows { result ≡ Kept → self.new.rows ≡ rows }
+        ensures same { result ≢ Kept → self.new.rows ≡ self.old.rows }
+        ensures told { Are (K.tables self.old.place self.old.keeper) (texts_of self.old.rows) → Are (K.tables self.new.place self.new.keeper) (texts_of self.new.rows) }
+        ensures place { self.new.place ≡ self.old.place }
+        ensures orphans { self.new.orphans ≡ self.old.orphans }
+        ensures later { K.faults self.old.keeper ≤ K.faults self.new.keeper }
+        ensures cause { result ≡ Committed.Failed → Rose (K.faults self.old.keeper) (K.faults self.new.keeper) }
+    {
+        match commit(alloc, &mut self.keeper, batch) {
+            Committed::Kept => {
+                self.rows = rows;
+                Committed::Kept
+            }
+            Committed::Failed => Committed::Failed,
+            Committed::NoMemory => Committed::NoMemory,
+        }
+    }
+
     /// Has the keeper make all changes that lead to the rows of a state, as one batch. Where no row changes, nothing is asked of it. After
     /// `Failed` and `NoMemory` the rows are as before. `Failed` comes only where the keeper's count of faults rose in this call.
     pub fn follow(&mut self, alloc: Global, state: &State) -> Committed
@@ -53,13 +75,6 @@ impl<K: Keeper> Store<K> {
         let Ok(batch) = batch_between(alloc, &self.rows, &rows) else {
             return Committed::NoMemory;
         };
-        match commit(alloc, &mut self.keeper, &batch) {
-            Committed::Kept => {
-                self.rows = rows;
-                Committed::Kept
-            }
-            Committed::Failed => Committed::Failed,
-            Committed::NoMemory => Committed::NoMemory,
-        }
+        self.take_in(alloc, rows, &batch)
     }
 }

@@ -2,15 +2,14 @@
 
 ghost use Rattle.std.specs.Prelude.{◌≡◌, ◌≢◌, ◌≤◌, ◌⊎◌, IfOk, IfSome, Option};
 ghost use Rattle.std.specs.Io.KnownBytes.{Appends};
-ghost use Rattle.cat_events.specs.Coming.{IsSteady};
 ghost use Rattle.cat_feed.specs.Feed.{begun};
 ghost use Rattle.cat_io.specs.Causes.{Rose};
 ghost use Rattle.cat_io.specs.Sink.{AppendsFront};
 ghost use Rattle.cat_keeper.specs.Answers.{Are, Stays};
 ghost use Rattle.cat_keeper.specs.Store.{Rows};
 ghost use Rattle.cat_layers.specs.Layered.{layered};
-ghost use Rattle.cat_model.specs.Sound.{AreBegun};
 ghost use Rattle.cat_model.specs.declared.types.OrphanRule.TheVariants.{Keep};
+ghost use Rattle.cat_store.specs.Opened.{IsOpening};
 ghost use Rattle.cat_store.specs.Refused.{IsNamed, IsRefused as MayRefuse};
 ghost use Rattle.cat_tables.specs.Stored.{stored, texts_of};
 ghost use Rattle.cat_transcript.specs.Program.{program_settings};
@@ -71,8 +70,7 @@ fn refuse<O: Sink>(alloc: Global, table: Table, key: &str, sink: &mut O) -> Stat
 
 // The session over what was opened.
 fn session_of<K: Keeper>(alloc: Global, opened: Opened<K>) -> KeptSession<Layered, K>
-    requires steady { IsSteady layered opened.links opened.state }
-    requires begun { AreBegun opened.state }
+    requires opening { IsOpening layered opened.links opened.state }
     requires rows { opened.store.rows ≡ stored opened.store.orphans opened.state }
     requires told { Are (K.tables opened.store.place opened.store.keeper) (texts_of opened.store.rows) }
     ensures { result ≡ record { ruled = record { orphans = opened.store.orphans; session = session_over opened.state }; place = opened.store.place; refusals = 0 } }
@@ -90,8 +88,7 @@ fn session_of<K: Keeper>(alloc: Global, opened: Opened<K>) -> KeptSession<Layere
 
 // The service over what was opened, at the moment 0.
 fn service_of<'a, K: Keeper>(alloc: Global, opened: Opened<K>) -> KeptService<'a, Layered, K>
-    requires steady { IsSteady layered opened.links opened.state }
-    requires begun { AreBegun opened.state }
+    requires opening { IsOpening layered opened.links opened.state }
     requires rows { opened.store.rows ≡ stored opened.store.orphans opened.state }
     requires told { Are (K.tables opened.store.place opened.store.keeper) (texts_of opened.store.rows) }
     ensures catalogue { result.desk.catalogue ≡ record { settings = program_settings opened.store.orphans; state = opened.state } }

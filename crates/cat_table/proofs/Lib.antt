@@ -1,10 +1,12 @@
 pub mod Heights
+pub mod Leans
 pub mod Orders
 pub mod Placed
 pub mod Places
 pub mod Puts
 pub mod Rising
 pub mod Searched
+pub mod Shared
 pub mod Sides
 pub mod Steps
 pub mod Tables

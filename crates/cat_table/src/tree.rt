@@ -215,6 +215,21 @@ impl<A> Tree<A> {
     }
 }
 
+impl<A: Drop> Fork<A> {
+    // The parts of a fork that others keep too.
+    fn shared_parts(&self) -> Result<Parts<A>, AllocError>
+        ensures left { IfOk result (λ parts. parts.left ≡ self.now.left) }
+        ensures item { IfOk result (λ parts. arc_value parts.item ≡ arc_value self.now.item) }
+        ensures right { IfOk result (λ parts. parts.right ≡ self.now.right) }
+    {
+        Ok(Parts {
+            left: self.left.share()?,
+            item: Arc::try_clone(&self.item)?,
+            right: self.right.share()?,
+        })
+    }
+}
+
 impl<A: Drop> Tree<A> {
     /// A copy, which shares all items. Takes no memory.
     pub fn share(&self) -> Result<Tree<A>, AllocError>
@@ -241,11 +256,10 @@ impl<A: Drop> Tree<A> {
                     item: fork.item,
                     right: fork.right,
                 })),
-                Err(fork) => Ok(Some(Parts {
-                    left: fork.left.share()?,
-                    item: Arc::try_clone(&fork.item)?,
-                    right: fork.right.share()?,
-                })),
+                Err(fork) => {
+                    let fork: &Fork<A> = &fork;
+                    Ok(Some(fork.shared_parts()?))
+                }
             },
         }
     }
@@ -275,6 +289,58 @@ impl<A: Drop> Tree<A> {
         })
     }
 
+    // A tree of these parts, whose first two trees go below the second item.
+    fn fork_low(
+        alloc: Global,
+        left: Tree<A>,
+        item: Arc<A, Global>,
+        rest: Parts<A>,
+    ) -> Result<Tree<A>, AllocError>
+        requires room { length left + length rest.left + length rest.right + 1 < MOST }
+        requires low { Balance (length left) (length rest.left) }
+        requires sides { Balance (length left + length rest.left + 1) (length rest.right) }
+        ensures { IfOk result (λ t. t ≡ left ++ arc_value item ∷ (rest.left ++ arc_value rest.item ∷ rest.right)) }
+    {
+        let low = Tree::fork(alloc, left, item, rest.left)?;
+        Tree::fork(alloc, low, rest.item, rest.right)
+    }
+
+    // A tree of these parts, whose last two trees go below the first item.
+    fn fork_high(
+        alloc: Global,
+        rest: Parts<A>,
+        item: Arc<A, Global>,
+        right: Tree<A>,
+    ) -> Result<Tree<A>, AllocError>
+        requires room { length rest.left + length rest.right + length right + 1 < MOST }
+        requires high { Balance (length rest.right) (length right) }
+        requires sides { Balance (length rest.left) (length rest.right + length right + 1) }
+        ensures { IfOk result (λ t. t ≡ rest.left ++ arc_value rest.item ∷ (rest.right ++ arc_value item ∷ right)) }
+    {
+        let high = Tree::fork(alloc, rest.right, item, right)?;
+        Tree::fork(alloc, rest.left, rest.item, high)
+    }
+
+    // A tree of these parts, whose middle item goes above all.
+    fn fork_both(
+        alloc: Global,
+        left: Tree<A>,
+        before: Arc<A, Global>,
+        middle: Parts<A>,
+        after: Arc<A, Global>,
+        right: Tree<A>,
+    ) -> Result<Tree<A>, AllocError>
+        requires room { length left + length middle.left + length middle.right + length right + 2 < MOST }
+        requires low { Balance (length left) (length middle.left) }
+        requires high { Balance (length middle.right) (length right) }
+        requires sides { Balance (length left + length middle.left + 1) (length middle.right + length right + 1) }
+        ensures { IfOk result (λ t. t ≡ left ++ arc_value before ∷ (middle.left ++ arc_value middle.item ∷ (middle.right ++ arc_value after ∷ right))) }
+    {
+        let low = Tree::fork(alloc, left, before, middle.left)?;
+        let high = Tree::fork(alloc, middle.right, after, right)?;
+        Tree::fork(alloc, low, middle.item, high)
+    }
+
     // A tree of these parts, of which the right one is too large: what stands first in it goes to the left.
     fn lean_left(
         alloc: Global,
@@ -291,15 +357,12 @@ impl<A: Drop> Tree<A> {
             unreachable!()
         };
         if outer.left.len() <= 2 * outer.right.len() {
-            let low = Tree::fork(alloc, left, item, outer.left)?;
-            return Tree::fork(alloc, low, outer.item, outer.right);
+            return Tree::fork_low(alloc, left, item, outer);
         }
         let Some(inner) = outer.left.parts()? else {
             unreachable!()
         };
-        let low = Tree::fork(alloc, left, item, inner.left)?;
-        let high = Tree::fork(alloc, inner.right, outer.item, outer.right)?;
-        Tree::fork(alloc, low, inner.item, high)
+        Tree::fork_both(alloc, left, item, inner, outer.item, outer.right)
     }
 
     // A tree of these parts, of which the left one is too large: what stands last in it goes to the right.
@@ -318,15 +381,12 @@ impl<A: Drop> Tree<A> {
             unreachable!()
         };
         if outer.right.len() <= 2 * outer.left.len() {
-            let high = Tree::fork(alloc, outer.right, item, right)?;
-            return Tree::fork(alloc, outer.left, outer.item, high);
+            return Tree::fork_high(alloc, outer, item, right);
         }
         let Some(inner) = outer.right.parts()? else {
             unreachable!()
         };
-        let low = Tree::fork(alloc, outer.left, outer.item, inner.left)?;
-        let high = Tree::fork(alloc, inner.right, item, right)?;
-        Tree::fork(alloc, low, inner.item, high)
+        Tree::fork_both(alloc, outer.left, outer.item, inner, item, right)
     }
 
     // A tree of these parts, of which one has got or lost an item. Where it leans, some items change sides.

@@ -2,13 +2,13 @@
 
 ghost use Rattle.std.specs.Prelude.{◌≡◌, ◌≢◌, ◌<◌, ◌≤◌, ◌⊎◌, map, string_bytes};
 ghost use Rattle.cat_doors.specs.Doors.{HaveClosed, StayClosed};
-ghost use Rattle.cat_events.specs.Coming.{IsSteady};
 ghost use Rattle.cat_feed.specs.Feed.{begun};
 ghost use Rattle.cat_io.specs.Causes.{Rose};
 ghost use Rattle.cat_keeper.specs.Answers.{Are, Stays};
 ghost use Rattle.cat_layers.specs.Layered.{layered};
-ghost use Rattle.cat_model.specs.Sound.{AreBegun, Sound};
+ghost use Rattle.cat_model.specs.Sound.{Sound};
 ghost use Rattle.cat_model.specs.Step.{start};
+ghost use Rattle.cat_store.specs.Opened.{IsOpening};
 ghost use Rattle.cat_stored.specs.Stores.{IsRefused, IsUnopenable};
 ghost use Rattle.cat_tables.specs.Stored.{stored, texts_of};
 ghost use Rattle.cat_tool.specs.Ended.{faults_left, tables_left};
@@ -65,8 +65,7 @@ fn kept_desk<C: Clock, K: Keeper>(
     opened: Opened<K>,
     mut clock: C,
 ) -> KeptDesk<Layered, C, K>
-    requires steady { IsSteady layered opened.links opened.state }
-    requires begun { AreBegun opened.state }
+    requires opening { IsOpening layered opened.links opened.state }
     requires rows { opened.store.rows ≡ stored opened.store.orphans opened.state }
     requires told { Are (K.tables opened.store.place opened.store.keeper) (texts_of opened.store.rows) }
     ensures settings { result.catalogue.settings ≡ program_settings opened.store.orphans }
@@ -155,8 +154,7 @@ fn serve_opened<
     doors: &mut D,
 ) -> Status
     requires crew { 0 < serving.connections }
-    requires steady { IsSteady layered opened.links opened.state }
-    requires begun { AreBegun opened.state }
+    requires opening { IsOpening layered opened.links opened.state }
     requires rows { opened.store.rows ≡ stored opened.store.orphans opened.state }
     requires told { Are (K.tables opened.store.place opened.store.keeper) (texts_of opened.store.rows) }
     ensures closed { result.0 ≡ 0 → HaveClosed (D.closed doors.new) }

@@ -1,18 +1,35 @@
 use Rattle.std.proofs.Common.{◌≡◌, refl, sym, ap, ◌∙◌, inl, inr}
+use Rattle.std.proofs.Math.Logic.{∥∥₁_elim}
+use Rattle.std.specs.Coded.{Coded, Coded-set, coded_list, coded×, coded_ℕ}
 use Rattle.cat_desk.specs.Deed.{deed_of}
 use Rattle.cat_keeper.specs.declared.keeper.Committed.TheVariants.{Kept, Failed, NoMemory}
 use Rattle.cat_loop.specs.Word.{memory}
-use Rattle.cat_tables.specs.Stored.{stored}
+use Rattle.cat_keeper.specs.contracts.table.Table.{the_row as table_row}
+use Rattle.cat_rows.specs.contracts.row.StoredRow.{the_row as stored_row}
+use Rattle.cat_tables.specs.Stored.{Stored, stored}
 use Rattle.cat_kept_desk.proofs.Answered.{acts_never}
 use Rattle.cat_kept_desk.proofs.Deeds.{needs_some}
 use Rattle.cat_kept_desk.proofs.Followed.{followed}
+use Rattle.cat_kept_desk.proofs.Beyond.{command_reaches}
 use Rattle.cat_kept_desk.proofs.desk.follow.Goals as goal
+
+abbrev coded_stored : Coded Stored
+coded_stored = coded_list (coded× (coded× table_row.coded (coded_list coded_ℕ)) stored_row.coded)
+
+pub keep-requires-clause-rows : goal.keep-requires-clause-rows
+keep-requires-clause-rows g c =
+    ∥∥₁_elim c.requires.followed (Coded-set coded_stored _ _) (λ f. f.rows_are ∙ (λ i. stored (sym f.rule_is i) (sym c.in-Ok.ensures i)))
+
+pub keep-requires-clause-beyond : goal.keep-requires-clause-beyond
+keep-requires-clause-beyond g c =
+    let catalogue = c.args.catalogue.now in
+    command_reaches g.L.Layers.rules c.args.now (deed_of c.args.command.now) catalogue c.act-reply.new.catalogue c.act-reply.result _ _ c.act-reply.ensures c.state-before.ensures.sound c.in-Ok.ensures c.sound_state.ensures.state
 
 pub returns-in-Kept-clause-followed : goal.returns-in-Kept-clause-followed
 returns-in-Kept-clause-followed g c =
     let same = ap (λ s. s.orphans) (sym c.act-reply.ensures.settings) in
-    followed _ _ _ _ _ _ _ _ _ _ c.follow.ensures.orphans same c.follow.ensures.told
-    (λ rule rows. c.follow.ensures.rows c.in-Kept.is ∙ (λ i. stored ((rule ∙ same) i) (c.view.ensures.state i))) c.requires.followed
+    followed _ _ _ _ _ _ _ _ _ _ c.keep.ensures.orphans same c.keep.ensures.told
+    (λ rule rows. c.keep.ensures.rows c.in-Kept.is ∙ (λ i. stored ((rule ∙ same) i) (c.sound_state.ensures.state i))) c.requires.followed
 
 pub returns-in-Kept-clause-acts : goal.returns-in-Kept-clause-acts
 returns-in-Kept-clause-acts g c = inl (c.act-reply.ensures, refl)
@@ -33,8 +50,8 @@ returns-in-Failed-clause-followed g c =
     let settings = c.put_back.ensures.settings ∙ c.act-reply.ensures.settings in
     let state = c.put_back.ensures.state ∙ c.in-Ok.ensures in
     let same = ap (λ s. s.orphans) (sym settings) in
-    followed _ _ _ _ _ _ _ _ _ _ c.follow.ensures.orphans same c.follow.ensures.told
-    (λ rule rows. c.follow.ensures.same (λ k. (let no : Failed ≡ Kept = sym c.in-Failed.is ∙ k in cc)) ∙ (rows ∙ (λ i. stored (same i) (sym state i)))) c.requires.followed
+    followed _ _ _ _ _ _ _ _ _ _ c.keep.ensures.orphans same c.keep.ensures.told
+    (λ rule rows. c.keep.ensures.same (λ k. (let no : Failed ≡ Kept = sym c.in-Failed.is ∙ k in cc)) ∙ (rows ∙ (λ i. stored (same i) (sym state i)))) c.requires.followed
 
 pub returns-in-NoMemory-clause-acts : goal.returns-in-NoMemory-clause-acts
 returns-in-NoMemory-clause-acts g c = inl (
@@ -54,8 +71,8 @@ returns-in-NoMemory-clause-followed g c =
     let settings = c.put_back-in-NoMemory.ensures.settings ∙ c.act-reply.ensures.settings in
     let state = c.put_back-in-NoMemory.ensures.state ∙ c.in-Ok.ensures in
     let same = ap (λ s. s.orphans) (sym settings) in
-    followed _ _ _ _ _ _ _ _ _ _ c.follow.ensures.orphans same c.follow.ensures.told
-    (λ rule rows. c.follow.ensures.same (λ k. (let no : NoMemory ≡ Kept = sym c.in-NoMemory.is ∙ k in cc)) ∙ (rows ∙ (λ i. stored (same i) (sym state i)))) c.requires.followed
+    followed _ _ _ _ _ _ _ _ _ _ c.keep.ensures.orphans same c.keep.ensures.told
+    (λ rule rows. c.keep.ensures.same (λ k. (let no : NoMemory ≡ Kept = sym c.in-NoMemory.is ∙ k in cc)) ∙ (rows ∙ (λ i. stored (same i) (sym state i)))) c.requires.followed
 
 pub returns-in-Kept-clause-cause : goal.returns-in-Kept-clause-cause
 returns-in-Kept-clause-cause g c = λ is. acts_never g.L.Layers.rules c.args.now (deed_of c.args.command.now) c.args.catalogue.now c.act-reply.new.catalogue c.act-reply.result c.act-reply.ensures is

@@ -1,6 +1,6 @@
 use Rattle.std.proofs.Common.{◌≡◌, ◌++◌, drop, false, map}
 use Rattle.cat_query.specs.Answers.{IsKept, shown}
-use Rattle.cat_query.specs.Seen.{pair_of}
+use Rattle.cat_pages.specs.Seen.{pair_of}
 use Rattle.cat_query.proofs.Texts.{rest_text}
 use Rattle.cat_query.proofs.answers.push_items.Given as goal
 

@@ -1,7 +1,7 @@
 use Rattle.std.proofs.Common.{◌++◌, ap, ◌∙◌, false, map}
 use Rattle.cat_query.specs.Answers.{shown}
-use Rattle.cat_query.specs.Seen.{pair_of}
-use Rattle.cat_query.specs.SeenPage.{items_seen}
+use Rattle.cat_pages.specs.Seen.{pair_of}
+use Rattle.cat_pages.specs.SeenPage.{items_seen}
 use Rattle.cat_query.proofs.Texts.{after_ok, three_texts, page_text, kept_on, kept_more, rest_text}
 use Rattle.cat_query.proofs.answers.push_page_text.Goals as goal
 

@@ -1,6 +1,6 @@
 use Rattle.std.proofs.Common.{◌≡◌, [], drop, map}
 use Rattle.cat_query.specs.Facets.{counted, values_among}
-use Rattle.cat_query.specs.Page.{pair_seen}
+use Rattle.cat_pages.specs.Page.{pair_seen}
 use Rattle.cat_query.proofs.facets.counts.Given as goal
 
 -- with those that are left counted too, all are

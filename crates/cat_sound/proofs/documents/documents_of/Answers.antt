@@ -5,6 +5,6 @@ use Rattle.cat_sound.proofs.documents.documents_of.Goals as goal
 
 pub returns : goal.returns
 returns g c =
-    IfOk-weaker c.tabulated.result _ _
+    IfOk-weaker c.indexed.result _ _
     (λ documents is. documents_are g.L.Layers.rules c.args.links.now c.args.m.now c.requires.linked c.requires.recorded c.as_slice.result.now (c.as_slice.ensures ∙ c.in_ok-all.ensures) documents is)
-    c.tabulated.ensures
+    c.indexed.ensures

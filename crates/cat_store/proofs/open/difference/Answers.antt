@@ -1,9 +1,8 @@
 use Rattle.std.proofs.Common.{inl, subst}
-use Rattle.std.proofs.lemmas.Result.{IfOk-weaker}
 use Rattle.std.specs.Prelude.{MatchOption}
 use Rattle.cat_opening.specs.Candidate.{IsCandidate}
 use Rattle.cat_opening.specs.Read.{AreNoTexts}
-use Rattle.cat_store.proofs.Naming.{compared}
+use Rattle.cat_store.proofs.Naming.{named_after}
 use Rattle.cat_store.proofs.open.difference.Goals as goal
 
 pub returns-in_default : goal.returns-in_default
@@ -16,4 +15,4 @@ returns c =
     let rows = c.args.rows.now in
     let found = c.in-Some.found in
     let is : IsCandidate rows found = subst (λ v. MatchOption v (AreNoTexts rows) (IsCandidate rows)) c.in-Some.is c.in_ok-found.ensures.read in
-    IfOk-weaker c.first_difference.result _ _ (compared rows c.in_ok-told.told found is c.in_ok-told.ensures) c.first_difference.ensures
+    named_after rows c.in_ok-told.told found is c.in_ok-told.ensures c.first_difference.result c.first_difference.ensures

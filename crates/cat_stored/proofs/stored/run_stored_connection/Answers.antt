@@ -32,8 +32,8 @@ returns-in-Ok-clause-kept g c =
         rule_kept = λ none. subst (λ (l : Ledger). IfSome (g.K.Keeper.tables c.args.place c.args.keeper) (λ rows. HasRule rows l.settings.orphans l.state)) (sym is.catalogue) (e.kept none);
         read = subst (λ m. IfSome (g.K.Keeper.tables c.args.place c.args.keeper) (λ rows. IsRead rows m)) state e.read;
         opens = subst (λ m. IfSome (g.K.Keeper.tables c.args.place c.args.keeper) (λ rows. OpensAs layered rows m)) state
-            (told_opens layered c.in-Ok.opened.state e.tells e.tells_first e.again (g.K.Keeper.tables c.args.place c.args.keeper) e.read);
-        sound = subst (Sound layered) state e.steady.sound;
+            (told_opens layered c.in-Ok.opened.state e.opening.tells e.opening.tells_first e.opening.again (g.K.Keeper.tables c.args.place c.args.keeper) e.read);
+        sound = subst (Sound layered) state e.opening.steady.sound;
       };
       ran = (c.kept_connection-end.result, c.from.ensures, c.kept_connection-end.ensures.outcome, c.kept_connection-end.ensures.transcript);
       kept = ∥∥₁_map c.into_store-store.ensures.followed

@@ -2,6 +2,7 @@ use Rattle.std.proofs.Common.{ap, sym, ◌∙◌}
 use Rattle.std.specs.FinMap.Entries.{is_sorted}
 use Rattle.cat_table.specs.Table.{keys, text_cmp}
 use Rattle.cat_search.specs.Filter.{matching}
+use Rattle.cat_search.specs.Index.{corrected}
 use Rattle.cat_search.proofs.Entries.{all_match, documents_found}
 use Rattle.cat_search.proofs.Finds.{each_ok, found_keys}
 use Rattle.cat_search.proofs.index.Index.matching.Goals as goal
@@ -13,10 +14,12 @@ returns-then-accepts_all c =
 
 pub returns : goal.returns
 returns c =
+    let self = c.self.inside in
+    let found_is = c.in_ok-found.ensures ∙ ap (corrected c.args.filters.now self.documents self.pending) c.in_ok-listed.ensures in
     let keys_are =
-    ap keys c.in_ok-found.ensures
-    ∙ found_keys c.self.inside.documents c.self.inside.lists c.args.filters.now c.self.invariant c.in_order.ensures
-    (ap (is_sorted text_cmp) (sym c.in_ok-found.ensures) ∙ c.in_order-2.ensures)
+    ap keys found_is
+    ∙ found_keys self.documents self.listed self.pending self.lists c.args.filters.now c.self.invariant c.in_order.ensures
+    (ap (is_sorted text_cmp) (sym found_is) ∙ c.in_order-2.ensures)
     (sym c.accepts_all.ensures ∙ c.if-accepts_all.false) in
-    let all = documents_found c.self.inside.documents c.in_ok-found.found c.args.filters.now c.in_order.ensures keys_are ∙ ap (matching c.args.filters.now) c.self.view_is in
+    let all = documents_found self.documents c.in_ok-found.found c.args.filters.now c.in_order.ensures keys_are ∙ ap (matching c.args.filters.now) c.self.view_is in
     each_ok c.documents_of.result _ _ (λ v e. e ∙ all) c.documents_of.ensures

@@ -1,0 +1,7 @@
+use Rattle.std.proofs.Common.{◌≡◌, drop}
+use Rattle.cat_frame.specs.Amended.{without_all}
+use Rattle.cat_events.proofs.apply.left_documents.Given as goal
+
+-- without the references that are left to go the documents are those wanted
+abbrev pub invariant-loop-reference : goal.invariant-loop-reference
+invariant-loop-reference l = without_all (drop l.reference-index l.gone) l.next ≡ without_all l.gone l.documents

@@ -1,0 +1,48 @@
+-- What a deed reached of what is stored.
+use Rattle.std.specs.Prelude.{◌≡◌, ⊤, List, []}
+use Rattle.std.specs.declared.option.Option.{Option}
+use Rattle.std.specs.declared.option.Option.TheVariants.{None, Some}
+use Rattle.cat_desk.specs.Deed.{Deed}
+use Rattle.cat_desk.specs.Deed.Deed.{Mutate, ShelfPut, ShelfDrop, Forget, ForgetNumber, Finish, Settle}
+use Rattle.cat_model.specs.Catalogue.{Ref}
+use Rattle.cat_model.specs.Step.{ref_at}
+use Rattle.cat_model.specs.declared.types.State.{State}
+use Rattle.cat_reach.specs.Reach.{given_refs, own_refs, reached}
+use Rattle.cat_renewed.specs.declared.reached.Reached.{Reached}
+use Rattle.cat_table.specs.Table.{Text}
+
+-- what was reached from a reference, if there is one
+abbrev pub refs_from : Option Ref → State → State → List Ref
+refs_from None m n = []
+refs_from (Some r) m n = reached (own_refs r m n) m n
+
+-- the references that a deed reached between two states; a settle may reach all
+abbrev pub refs_reached : Deed → State → State → Option (List Ref)
+refs_reached (Mutate provider x) m n = Some (reached (given_refs provider x m) m n)
+refs_reached (Forget r) m n = Some (refs_from (Some r) m n)
+refs_reached (ForgetNumber number) m n = Some (refs_from (ref_at m number) m n)
+refs_reached (Finish order) m n = Some (refs_from (Some order.reference) m n)
+refs_reached Settle m n = None
+refs_reached d m n = Some []
+
+-- the provider whose inputs a deed may change
+abbrev pub provider_reached : Deed → Option Text
+provider_reached (Mutate provider x) = Some provider
+provider_reached d = None
+
+-- the text of the shelf that a deed may change
+abbrev pub text_reached : Deed → Option Text
+text_reached (ShelfPut name text) = Some name
+text_reached (ShelfDrop name) = Some name
+text_reached d = None
+
+-- this is what a deed reached
+pub record IsReached (d : Deed) (m n : State) (x : Reached) : Type 0 where
+  pub references : refs_reached d m n ≡ Some x.references.items
+  pub provider : x.provider ≡ provider_reached d
+  pub name : x.name ≡ text_reached d
+
+-- what was found, if anything was, is what a deed reached
+abbrev pub IsFound : Deed → State → State → Option Reached → Type 0
+IsFound d m n None = ⊤
+IsFound d m n (Some x) = IsReached d m n x

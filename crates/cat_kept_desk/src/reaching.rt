@@ -1,0 +1,79 @@
+//! What a command reached of what is stored.
+ghost use Rattle.std.specs.Prelude.{◌≡◌, IfOk, option_map};
+ghost use Rattle.std.specs.declared.option.Option.TheVariants.{None};
+ghost use Rattle.cat_desk.specs.Deed.{deed_of};
+ghost use Rattle.cat_kept_desk.specs.Reached.{IsFound, refs_from};
+
+use cat_core::catalogue::{Done, Saved, Stitched};
+use cat_desk::command::Command;
+use cat_hold::layers::Layers;
+use cat_model::types::State;
+use cat_reached::reached::{mutated_refs, refs_of};
+use cat_ref::reference::Ref;
+use cat_renewed::reached::Reached;
+use cat_table::listing::Copied;
+use std::alloc::{AllocError, Global};
+
+// What was reached from a reference, if there is one; no inputs were.
+fn reached_from(
+    alloc: Global,
+    reference: Option<&Ref>,
+    before: &State,
+    after: &State,
+) -> Result<Reached, AllocError>
+    ensures references { IfOk result (λ x. x.references.items ≡ refs_from (option_map (λ r. r.now) reference.entry) before.now after.now) }
+    ensures inputs { IfOk result (λ x. (x.provider ≡ None) × (x.name ≡ None)) }
+{
+    let references = match reference {
+        None => Vec::new(alloc),
+        Some(reference) => refs_of(alloc, reference, before, after)?,
+    };
+    Ok(Reached {
+        references,
+        provider: None,
+        name: None,
+    })
+}
+
+/// What a command reached of what is stored, of the state that was held before it and the one after it; none for a settle, which may reach
+/// all. The error is want of memory.
+pub fn reached<L: Layers>(
+    alloc: Global,
+    command: &Command<Done<'_, L>, Stitched<'_, L>>,
+    saved: &Saved<L>,
+    after: &State,
+) -> Result<Option<Reached>, AllocError>
+    ensures { IfOk result (λ found. IsFound (deed_of command.now) saved.now after.now found) }
+{
+    let before = saved.state();
+    match command {
+        Command::Mutate(provider, mutation) => Ok(Some(Reached {
+            references: mutated_refs(alloc, provider, mutation, before, after)?,
+            provider: Some(provider.duplicate(alloc)?),
+            name: None,
+        })),
+        Command::ShelfPut(name, _) | Command::ShelfDrop(name) => Ok(Some(Reached {
+            references: Vec::new(alloc),
+            provider: None,
+            name: Some(name.duplicate(alloc)?),
+        })),
+        Command::Forget(reference) => Ok(Some(reached_from(
+            alloc,
+            Some(reference),
+            before,
+            after,
+        )?)),
+        Command::ForgetNumber(number) => {
+            let reference = saved.ref_at(*number);
+            Ok(Some(reached_from(alloc, reference, before, after)?))
+        }
+        Command::Finish(done) => {
+            let reference = Some(&done.order().reference);
+            Ok(Some(reached_from(alloc, reference, before, after)?))
+        }
+        Command::Refresh(_) | Command::Take | Command::TakeStitch(_) | Command::PutStitch(_) => Ok(
+            Some(reached_from(alloc, None, before, after)?),
+        ),
+        Command::Settle => Ok(None),
+    }
+}

@@ -1,0 +1,5 @@
+pub mod Ordered
+pub mod Chunks
+pub mod Sorts
+pub mod Walks
+pub mod Spans

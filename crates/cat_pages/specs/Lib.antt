@@ -1,0 +1,4 @@
+pub mod Page
+pub mod Seen
+pub mod SeenPage
+pub mod Walked

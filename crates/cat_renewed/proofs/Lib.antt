@@ -1,0 +1,10 @@
+pub mod Putting
+pub mod Members
+pub mod Standing
+pub mod Found
+pub mod Noted
+pub mod Items
+pub mod Under
+pub mod Apart
+pub mod Beyond
+pub mod Renewing
