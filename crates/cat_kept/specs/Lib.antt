@@ -1,2 +1,3 @@
 pub mod Kept
 pub mod Carried
+pub mod About

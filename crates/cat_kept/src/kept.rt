@@ -1,20 +1,28 @@
 //! A session, and its store.
-ghost use Rattle.std.specs.Prelude.{◌≡◌, ◌≤◌, true, false, IfOk, OnErr};
+ghost use Rattle.std.specs.Prelude.{◌≡◌, ◌≢◌, ◌≤◌, true, false, IfOk, OnErr};
 ghost use Rattle.cat_commands.specs.Ready.{IsReady};
+ghost use Rattle.cat_io.specs.Causes.{Rose};
 ghost use Rattle.cat_keeper.specs.Answers.{Are};
+ghost use Rattle.cat_keeper.specs.declared.keeper.Committed.TheVariants.{Kept};
+ghost use Rattle.cat_kept.specs.About.{IsReachedFrom};
 ghost use Rattle.cat_kept.specs.Carried.{CarriesKept};
 ghost use Rattle.cat_kept.specs.Kept.{changes, kept_after, kept_reply, refused_keeper};
 ghost use Rattle.cat_kept_desk.specs.Followed.{IsFollowed};
 ghost use Rattle.cat_loop.specs.Word.{AnswersLine};
+ghost use Rattle.cat_model.specs.Sound.{AreOffers, AreSmall};
+ghost use Rattle.cat_renewed.specs.Renewed.{IsBeyond};
+ghost use Rattle.cat_renewed.specs.declared.reached.Reached.{Reached};
 ghost use Rattle.cat_session.specs.Carried.{Carries};
 ghost use Rattle.cat_tables.specs.Stored.{stored, texts_of};
 
+use crate::about::{About, line_about, reached};
 use cat_commands::line::Line;
 use cat_commands::read::read_line;
 use cat_core::catalogue::Saved;
 use cat_hold::layers::Layers;
 use cat_keeper::keeper::{Committed, Keeper};
 use cat_loop::Machine;
+use cat_model::types::State;
 use cat_session::Session;
 use cat_store::store::Store;
 use std::alloc::{AllocError, Global};
@@ -121,6 +129,33 @@ fn carry<L: Layers>(
     }
 }
 
+// Has the store follow a line, given what the line is about, and what the catalogue held before it and holds after it.
+fn keep<L: Layers, K: Keeper>(
+    alloc: Global,
+    store: &mut Store<K>,
+    about: About,
+    saved: &Saved<L>,
+    after: &State,
+) -> Committed
+    requires rows { store.old.rows ≡ stored store.old.orphans saved.now }
+    requires beyond { (x : Reached) → IsReachedFrom about saved.now after.now x → IsBeyond x saved.now after.now }
+    requires offers { AreOffers after.now }
+    requires small { AreSmall after.now }
+    ensures rows { result ≡ Kept → store.new.rows ≡ stored store.old.orphans after.now }
+    ensures same { result ≢ Kept → store.new.rows ≡ store.old.rows }
+    ensures told { Are (K.tables store.old.place store.old.keeper) (texts_of store.old.rows) → Are (K.tables store.new.place store.new.keeper) (texts_of store.new.rows) }
+    ensures place { store.new.place ≡ store.old.place }
+    ensures orphans { store.new.orphans ≡ store.old.orphans }
+    ensures later { K.faults store.old.keeper ≤ K.faults store.new.keeper }
+    ensures cause { result ≡ Committed.Failed → Rose (K.faults store.old.keeper) (K.faults store.new.keeper) }
+{
+    match reached(alloc, about, saved, after) {
+        Err(_) => Committed::NoMemory,
+        Ok(None) => store.follow(alloc, after),
+        Ok(Some(reached)) => store.follow_reached(alloc, &reached, saved.state(), after),
+    }
+}
+
 // Carries out a line that may change the stored rows, and has the store follow. For want of memory all is as before.
 fn follow<L: Layers, K: Keeper>(
     alloc: Global,
@@ -139,12 +174,14 @@ fn follow<L: Layers, K: Keeper>(
     ensures followed { IsFollowed (K.tables store.new.place store.new.keeper) store.new.orphans store.new.rows session.new.orphans session.new.session.state }
     ensures place { store.new.place ≡ store.old.place }
 {
+    let _before = session.sound_state();
+    let about = line_about(alloc, session, &line)?;
     let Carried {
         text,
         refused,
         saved,
     } = carry(alloc, session, line)?;
-    match store.follow(alloc, session.view()) {
+    match keep(alloc, store, about, &saved, session.sound_state()) {
         Committed::Kept => {
             drop(saved);
             Ok(text)

@@ -150,7 +150,7 @@ fn count(alloc: Global, docs: &Index, filters: &[Filter]) -> Result<usize, Alloc
     if filters.is_empty() {
         Ok(docs.len())
     } else {
-        Ok(docs.find(alloc, filters)?.len())
+        docs.count(alloc, filters)
     }
 }
 

@@ -7,4 +7,4 @@
 
 pub mod reached;
 mod refs;
-mod seeds;
+pub mod seeds;

@@ -73,9 +73,9 @@ fn gone_among(alloc: Global, refs: &[Ref], holders: &Map<Ref, u64>) -> Result<Ve
     Ok(free)
 }
 
-// What is reached from these references: they themselves, what is cut off with them, and what those of that had given that aren't held
-// again.
-fn reached_from(
+/// What is reached from these references: they themselves, what is cut off with them, and what those of that had given that aren't held
+/// again. The error is want of memory.
+pub fn reached_from(
     alloc: Global,
     seeds: Vec<Ref>,
     before: &State,

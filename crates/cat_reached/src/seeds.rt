@@ -59,7 +59,8 @@ fn taken_refs(
     }
 }
 
-/// The references that a mutation names: those of its items and of what it takes away.
+/// The references that a mutation names: those of its items and of what it takes away. They are those of the state before it alone. The error is
+/// want of memory.
 #[tactic(auto, using(crate::proofs::Offered::offered_refs))]
 pub fn mutation_seeds(
     alloc: Global,

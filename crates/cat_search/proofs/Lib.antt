@@ -4,3 +4,4 @@ pub mod Valued
 pub mod Listed
 pub mod Finds
 pub mod Entries
+pub mod Counted

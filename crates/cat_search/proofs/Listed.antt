@@ -1,6 +1,12 @@
 -- Which references stand under a term after a change, and that a change of a document keeps the lists those of the documents.
-use Rattle.std.proofs.Common.{◌≡◌, ℕ, suc, ◌==◌, length, arith, Bool, true, false, cond, not, ◌&&◌, ◌||◌, List, [], ◌∷◌, Option, Some, None, Ordering, refl, sym, ap, ◌∙◌, true≢false}
+use Rattle.std.proofs.Math.Seq.{drop-cons}
+use Rattle.std.proofs.lemmas.List.{take_all}
+use Rattle.std.proofs.Common.{◌≡◌, ◌≢◌, ℕ, zero, suc, ◌==◌, ◌<◌, ◌≤◌, ◌+◌, ◌-◌, length, take, drop, get_or, append_assoc, arith, Bool, true, false, cond, not, ◌&&◌, ◌||◌, List, [], ◌∷◌, ◌++◌, map, Option, Some, None, Ordering, refl, sym, ap, subst, ◌∙◌, true≢false}
 use Rattle.std.specs.Prelude.{is_some, option_map, unwrap_or}
+use Rattle.std.specs.List.{list_all, list_any}
+use Rattle.std.specs.List.Sorted.{IsPermutation}
+use Rattle.std.proofs.lemmas.List.Folds.{list_any-append}
+use Rattle.std.proofs.lemmas.List.Sorted.{list_any-IsPermutation}
 use Rattle.std.specs.Ordering.{eq_by_cmp}
 use Rattle.std.specs.FinMap.Entries.{find-put, find-where_key}
 use Rattle.std.specs.Cmp.{IsTotalOrder}
@@ -9,9 +15,9 @@ use Rattle.std.proofs.lemmas.Bool.Decides.{nat_tests}
 use Rattle.cat_tree.specs.Data.{Data}
 use Rattle.cat_table.specs.Pairs.{pair_total, pair_antisymmetric}
 use Rattle.cat_table.specs.Rows.{without}
-use Rattle.cat_table.specs.Table.{Map, find, get, put, text_cmp, text_total, text_antisymmetric}
+use Rattle.cat_table.specs.Table.{Map, find, get, keys, put, text_cmp, text_total, text_antisymmetric}
 use Rattle.cat_table.proofs.Tables.{same_is}
-use Rattle.cat_search.specs.Index.{Set, Lists, has, term_cmp, set_at, terms_at, has_term, AreLists, AgreeBeyond, with_document, with_set, entered, entered_all, struck, struck_all}
+use Rattle.cat_search.specs.Index.{Set, Lists, Posting, has, term_cmp, set_at, terms_at, has_term, has_posting, postings, AreLists, AreEntered, AreStruck, AgreeBeyond, with_document, with_documents, with_references, without_references, with_set, entered, struck}
 use Rattle.cat_search.specs.Terms.{Term, document_terms}
 
 pub term_total : IsTotalOrder term_cmp
@@ -87,53 +93,193 @@ set_at-with_set t [] lists u =
 set_at-with_set t (e ∷ es) lists u =
     ap (λ b. set_at (cond b (without term_cmp t lists) (put term_cmp t (e ∷ es) lists)) u) (longer (length es)) ∙ set_at-put t (e ∷ es) lists u
 
-has-entered : (r : List ℕ) (t : Term) (lists : Lists) (u : Term) (q : List ℕ) → has (set_at (entered r t lists) u) q ≡ ((eq_by_cmp term_cmp u t && same q r) || has (set_at lists u) q)
-has-entered r t lists u q = ap (λ s. has s q) (set_at-put t (put text_cmp r (tt {0}) (set_at lists t)) lists u) ∙ go (eq_by_cmp term_cmp u t) refl
+-- the reference is one of these
+abbrev pub among : List ℕ → List (List ℕ) → Bool
+among q rs = list_any (same q) rs
+
+or_into : (a b c : Bool) → (b || (a || c)) ≡ ((a || b) || c)
+or_into true true c = refl
+or_into true false c = refl
+or_into false b c = refl
+
+and_into : (a b c : Bool) → (not b && (not a && c)) ≡ (not (a || b) && c)
+and_into true true c = refl
+and_into true false c = refl
+and_into false b c = refl
+
+has-with_references : (rs : List (List ℕ)) (s : Set) (q : List ℕ) → has (with_references rs s) q ≡ (among q rs || has s q)
+has-with_references [] s q = refl
+has-with_references (r ∷ rs) s q =
+    has-with_references rs (put text_cmp r (tt {0}) s) q ∙ ap (λ b. among q rs || b) (has-put r (tt {0}) s q) ∙ or_into (same q r) (among q rs) (has s q)
+
+has-without_references : (rs : List (List ℕ)) (s : Set) (q : List ℕ) → has (without_references rs s) q ≡ (not (among q rs) && has s q)
+has-without_references [] s q = refl
+has-without_references (r ∷ rs) s q =
+    has-without_references rs (without text_cmp r s) q ∙ ap (λ b. not (among q rs) && b) (has-without r s q) ∙ and_into (same q r) (among q rs) (has s q)
+
+has-entered : (t : Term) (rs : List (List ℕ)) (lists : Lists) (u : Term) (q : List ℕ)
+    → has (set_at (entered t rs lists) u) q ≡ ((eq_by_cmp term_cmp u t && among q rs) || has (set_at lists u) q)
+has-entered t rs lists u q = ap (λ s. has s q) (set_at-put t (with_references rs (set_at lists t)) lists u) ∙ go (eq_by_cmp term_cmp u t) refl
   where
-    go : (b : Bool) → eq_by_cmp term_cmp u t ≡ b → has (cond b (put text_cmp r (tt {0}) (set_at lists t)) (set_at lists u)) q ≡ ((b && same q r) || has (set_at lists u) q)
-    go true e = has-put r (tt {0}) (set_at lists t) q ∙ ap (λ v. same q r || has (set_at lists v) q) (sym (term_is u t e))
+    go : (b : Bool) → eq_by_cmp term_cmp u t ≡ b → has (cond b (with_references rs (set_at lists t)) (set_at lists u)) q ≡ ((b && among q rs) || has (set_at lists u) q)
+    go true e = has-with_references rs (set_at lists t) q ∙ ap (λ v. among q rs || has (set_at lists v) q) (sym (term_is u t e))
     go false e = refl
 
-has-struck : (r : List ℕ) (t : Term) (lists : Lists) (u : Term) (q : List ℕ) → has (set_at (struck r t lists) u) q ≡ (not (eq_by_cmp term_cmp u t && same q r) && has (set_at lists u) q)
-has-struck r t lists u q = ap (λ s. has s q) (set_at-with_set t (without text_cmp r (set_at lists t)) lists u) ∙ go (eq_by_cmp term_cmp u t) refl
+has-struck : (t : Term) (rs : List (List ℕ)) (lists : Lists) (u : Term) (q : List ℕ)
+    → has (set_at (struck t rs lists) u) q ≡ (not (eq_by_cmp term_cmp u t && among q rs) && has (set_at lists u) q)
+has-struck t rs lists u q = ap (λ s. has s q) (set_at-with_set t (without_references rs (set_at lists t)) lists u) ∙ go (eq_by_cmp term_cmp u t) refl
   where
-    go : (b : Bool) → eq_by_cmp term_cmp u t ≡ b → has (cond b (without text_cmp r (set_at lists t)) (set_at lists u)) q ≡ (not (b && same q r) && has (set_at lists u) q)
-    go true e = has-without r (set_at lists t) q ∙ ap (λ v. not (same q r) && has (set_at lists v) q) (sym (term_is u t e))
+    go : (b : Bool) → eq_by_cmp term_cmp u t ≡ b → has (cond b (without_references rs (set_at lists t)) (set_at lists u)) q ≡ (not (b && among q rs) && has (set_at lists u) q)
+    go true e = has-without_references rs (set_at lists t) q ∙ ap (λ v. not (among q rs) && has (set_at lists v) q) (sym (term_is u t e))
     go false e = refl
 
-enter_more : (a b e h : Bool) → ((a && e) || ((b && e) || h)) ≡ (((b || a) && e) || h)
-enter_more true true true h = refl
-enter_more true true false h = refl
-enter_more true false true h = refl
-enter_more true false false h = refl
-enter_more false true true h = refl
-enter_more false true false h = refl
-enter_more false false true h = refl
-enter_more false false false h = refl
+-- ---- postings
 
-strike_more : (a b e h : Bool) → (not (a && e) && (not (b && e) && h)) ≡ (not ((b || a) && e) && h)
-strike_more true true true h = refl
-strike_more true true false h = refl
-strike_more true false true h = refl
-strike_more true false false h = refl
-strike_more false true true h = refl
-strike_more false true false h = refl
-strike_more false false true h = refl
-strike_more false false false h = refl
+take_next : {X : Type 0} (n : ℕ) (x : X) (xs : List X) → n ≢ 0 → take n (x ∷ xs) ≡ x ∷ take (n - 1) xs
+take_next zero x xs h = absurd (h refl)
+take_next (suc n) x xs h = ap (λ m. x ∷ take m xs) (less_one n)
+  where
+    less_one : (m : ℕ) → m ≡ suc m - 1
+    less_one m = omega arith
 
-has-entered_all : (r : List ℕ) (ts : List Term) (lists : Lists) (u : Term) (q : List ℕ) → has (set_at (entered_all r ts lists) u) q ≡ ((has_term u ts && same q r) || has (set_at lists u) q)
-has-entered_all r [] lists u q = refl
-has-entered_all r (t ∷ ts) lists u q =
-    has-entered_all r ts (entered r t lists) u q
-    ∙ ap (λ b. (has_term u ts && same q r) || b) (has-entered r t lists u q)
-    ∙ enter_more (has_term u ts) (eq_by_cmp term_cmp u t) (same q r) (has (set_at lists u) q)
+-- the posting is this one
+abbrev pub is_posting : Term → List ℕ → Posting → Bool
+is_posting u q p = eq_by_cmp term_cmp u p.0 && same q p.1
 
-has-struck_all : (r : List ℕ) (ts : List Term) (lists : Lists) (u : Term) (q : List ℕ) → has (set_at (struck_all r ts lists) u) q ≡ (not (has_term u ts && same q r) && has (set_at lists u) q)
-has-struck_all r [] lists u q = refl
-has-struck_all r (t ∷ ts) lists u q =
-    has-struck_all r ts (struck r t lists) u q
-    ∙ ap (λ b. not (has_term u ts && same q r) && b) (has-struck r t lists u q)
-    ∙ strike_more (has_term u ts) (eq_by_cmp term_cmp u t) (same q r) (has (set_at lists u) q)
+first_of : (a b : Bool) → (a && b) ≡ true → (a ≡ true) × (b ≡ true)
+first_of true true h = (refl, refl)
+first_of true false h = absurd (true≢false (sym h))
+first_of false b h = absurd (true≢false (sym h))
+
+and_none : (b : Bool) → false ≡ (b && false)
+and_none true = refl
+and_none false = refl
+
+and_either : (e a b : Bool) → ((e && a) || (e && b)) ≡ (e && (a || b))
+and_either true a b = refl
+and_either false a b = refl
+
+-- where all postings have one term, their references stand under it
+has-run : (t : Term) (run : List Posting) → list_all (λ p. eq_by_cmp term_cmp t p.0) run ≡ true → (u : Term) (q : List ℕ)
+    → has_posting u q run ≡ (eq_by_cmp term_cmp u t && among q (map (λ p. p.1) run))
+has-run t [] h u q = and_none (eq_by_cmp term_cmp u t)
+has-run t (p ∷ run) h u q =
+    let both = first_of (eq_by_cmp term_cmp t p.0) (list_all (λ r. eq_by_cmp term_cmp t r.0) run) h in
+    (λ i. (eq_by_cmp term_cmp u (sym (term_is t p.0 both.0) i) && same q p.1) || has-run t run both.1 u q i)
+    ∙ and_either (eq_by_cmp term_cmp u t) (same q p.1) (among q (map (λ r. r.1) run))
+
+enter_more : (o e s a h : Bool) → (o || ((e && (s || a)) || h)) ≡ (((e && s) || ((e && a) || o)) || h)
+enter_more true true true a h = refl
+enter_more true true false true h = refl
+enter_more true true false false h = refl
+enter_more true false s a h = refl
+enter_more false true true a h = refl
+enter_more false true false true h = refl
+enter_more false true false false h = refl
+enter_more false false s a h = refl
+
+strike_more : (o e s a h : Bool) → (not o && (not (e && (s || a)) && h)) ≡ (not ((e && s) || ((e && a) || o)) && h)
+strike_more true true true a h = refl
+strike_more true true false true h = refl
+strike_more true true false false h = refl
+strike_more true false s a h = refl
+strike_more false true true a h = refl
+strike_more false true false true h = refl
+strike_more false true false false h = refl
+strike_more false false s a h = refl
+
+-- the postings of one term at the front, and the others
+has-front : (first : Posting) (run others : List Posting) → list_all (λ p. eq_by_cmp term_cmp first.0 p.0) run ≡ true → (u : Term) (q : List ℕ)
+    → has_posting u q (first ∷ (run ++ others))
+    ≡ ((eq_by_cmp term_cmp u first.0 && same q first.1) || ((eq_by_cmp term_cmp u first.0 && among q (map (λ p. p.1) run)) || has_posting u q others))
+has-front first run others h u q =
+    ap (λ b. is_posting u q first || b) (list_any-append (is_posting u q) run others ∙ ap (λ b. b || has_posting u q others) (has-run first.0 run h u q))
+
+-- once the postings of one term at the front are entered, the others are left to enter
+enters_more : (first : Posting) (run others rest : List Posting) (old new : Lists) → list_all (λ p. eq_by_cmp term_cmp first.0 p.0) run ≡ true → run ++ others ≡ rest
+    → AreEntered others (entered first.0 (first.1 ∷ map (λ p. p.1) run) old) new → AreEntered (first ∷ rest) old new
+enters_more first run others rest old new h parts are u q =
+    are u q
+    ∙ ap (λ b. has_posting u q others || b) (has-entered first.0 (first.1 ∷ map (λ p. p.1) run) old u q)
+    ∙ enter_more (has_posting u q others) (eq_by_cmp term_cmp u first.0) (same q first.1) (among q (map (λ p. p.1) run)) (has (set_at old u) q)
+    ∙ ap (λ b. b || has (set_at old u) q) (sym (has-front first run others h u q) ∙ ap (λ ps. has_posting u q (first ∷ ps)) parts)
+
+-- once the postings of one term at the front are struck, the others are left to strike
+strikes_more : (first : Posting) (run others rest : List Posting) (old new : Lists) → list_all (λ p. eq_by_cmp term_cmp first.0 p.0) run ≡ true → run ++ others ≡ rest
+    → AreStruck others (struck first.0 (first.1 ∷ map (λ p. p.1) run) old) new → AreStruck (first ∷ rest) old new
+strikes_more first run others rest old new h parts are u q =
+    are u q
+    ∙ ap (λ b. not (has_posting u q others) && b) (has-struck first.0 (first.1 ∷ map (λ p. p.1) run) old u q)
+    ∙ strike_more (has_posting u q others) (eq_by_cmp term_cmp u first.0) (same q first.1) (among q (map (λ p. p.1) run)) (has (set_at old u) q)
+    ∙ ap (λ b. not b && has (set_at old u) q) (sym (has-front first run others h u q) ∙ ap (λ ps. has_posting u q (first ∷ ps)) parts)
+
+all_behind : (ps : List Posting) → take (suc (length ps) - 1) ps ≡ ps
+all_behind ps = ap (λ n. take n ps) (less_one (length ps)) ∙ take_all (length ps) ps (omega arith)
+  where
+    less_one : (n : ℕ) → suc n - 1 ≡ n
+    less_one n = omega arith
+
+pub enters_left : (left : List Posting) (first : Posting) (run others : List Posting) (old new : Lists) → 1 ≤ length left → first ≡ get_or left 0 first
+    → list_all (λ p. eq_by_cmp term_cmp first.0 p.0) run ≡ true → run ++ others ≡ take (length left - 1) (drop 1 left)
+    → AreEntered others (entered first.0 (first.1 ∷ map (λ p. p.1) run) old) new → AreEntered left old new
+enters_left [] first run others old new some is h parts are = absurd (omega (arith, some))
+enters_left (p ∷ ps) first run others old new some is h parts are =
+    subst (λ (x : Posting). AreEntered (x ∷ ps) old new) is (enters_more first run others ps old new h (parts ∙ all_behind ps) are)
+
+pub strikes_left : (left : List Posting) (first : Posting) (run others : List Posting) (old new : Lists) → 1 ≤ length left → first ≡ get_or left 0 first
+    → list_all (λ p. eq_by_cmp term_cmp first.0 p.0) run ≡ true → run ++ others ≡ take (length left - 1) (drop 1 left)
+    → AreStruck others (struck first.0 (first.1 ∷ map (λ p. p.1) run) old) new → AreStruck left old new
+strikes_left [] first run others old new some is h parts are = absurd (omega (arith, some))
+strikes_left (p ∷ ps) first run others old new some is h parts are =
+    subst (λ (x : Posting). AreStruck (x ∷ ps) old new) is (strikes_more first run others ps old new h (parts ∙ all_behind ps) are)
+
+posting_under : (e s h : Bool) → ((e && s) || (s && h)) ≡ (s && (e || h))
+posting_under true true h = refl
+posting_under true false h = refl
+posting_under false s h = refl
+
+has-each : (ts : List Term) (r : List ℕ) (u : Term) (q : List ℕ) → has_posting u q (map (λ t. (t, r)) ts) ≡ (same q r && has_term u ts)
+has-each [] r u q = and_none (same q r)
+has-each (t ∷ ts) r u q =
+    ap (λ b. (eq_by_cmp term_cmp u t && same q r) || b) (has-each ts r u q) ∙ posting_under (eq_by_cmp term_cmp u t) (same q r) (has_term u ts)
+
+either_and : (a b h : Bool) → ((a && h) || (b && h)) ≡ ((a || b) && h)
+either_and true true true = refl
+either_and true true false = refl
+either_and true false true = refl
+either_and true false false = refl
+either_and false b h = refl
+
+-- the reference of one more entry
+pub first_next : (made : List (List ℕ)) (n : ℕ) (e : List ℕ × Unit {0}) (left rest : Set) (all : List (List ℕ)) → n ≢ 0 → left ≡ e ∷ rest
+    → made ++ take n (keys left) ≡ all → (made ++ e.0 ∷ []) ++ take (n - 1) (keys rest) ≡ all
+first_next made n e left rest all h step so_far =
+    append_assoc made (e.0 ∷ []) (take (n - 1) (keys rest))
+    ∙ ap (λ l. made ++ l) (sym (take_next n e.0 (keys rest) h) ∙ ap (λ s. take n (keys s)) (sym step))
+    ∙ so_far
+
+-- the postings of one more reference
+pub postings_next : (docs : Map Data) (found : List Posting) (rs : List (List ℕ)) (i : ℕ) (r : List ℕ) → i < length rs → r ≡ get_or rs i r
+    → (found ++ map (λ t. (t, r)) (terms_at docs r)) ++ postings docs (drop (i + 1) rs) ≡ found ++ postings docs (drop i rs)
+postings_next docs found rs i r h e =
+    append_assoc found (map (λ t. (t, r)) (terms_at docs r)) (postings docs (drop (i + 1) rs))
+    ∙ ap (λ n. found ++ postings docs (r ∷ drop n rs)) (one_more i)
+    ∙ ap (λ l. found ++ postings docs l) (sym (drop-cons rs i r h ∙ ap (λ x. x ∷ drop (suc i) rs) (sym e)))
+  where
+    one_more : (n : ℕ) → n + 1 ≡ suc n
+    one_more n = omega arith
+
+-- a posting is among those of references exactly where the reference is, and its document has the term
+has-postings : (docs : Map Data) (rs : List (List ℕ)) (u : Term) (q : List ℕ) → has_posting u q (postings docs rs) ≡ (among q rs && has_term u (terms_at docs q))
+has-postings docs [] u q = refl
+has-postings docs (r ∷ rs) u q =
+    list_any-append (is_posting u q) (map (λ t. (t, r)) (terms_at docs r)) (postings docs rs)
+    ∙ (λ i. (has-each (terms_at docs r) r u q ∙ here (same q r) refl) i || has-postings docs rs u q i)
+    ∙ either_and (same q r) (among q rs) (has_term u (terms_at docs q))
+  where
+    here : (b : Bool) → same q r ≡ b → (same q r && has_term u (terms_at docs r)) ≡ (same q r && has_term u (terms_at docs q))
+    here true e = ap (λ x. same q r && has_term u (terms_at docs x)) (sym (text_is q r e))
+    here false e = (λ i. e i && has_term u (terms_at docs r)) ∙ (λ i. sym e i && has_term u (terms_at docs q))
 
 -- ---- changes of a document
 
@@ -146,44 +292,46 @@ got : (r : List ℕ) (x : Option Data) (docs : Map Data) (q : List ℕ) → get 
 got r None docs q = find-without text_total text_antisymmetric q r docs ∙ none_at (same q r) (get docs q)
 got r (Some d) docs q = find-put text_cmp text_total q r d docs
 
-terms_either : (b : Bool) (x y : Option Data)
-    → unwrap_or (option_map document_terms (cond b x y)) [] ≡ cond b (unwrap_or (option_map document_terms x) []) (unwrap_or (option_map document_terms y) [])
-terms_either true x y = refl
-terms_either false x y = refl
+one_either : {X : Type 0} (b : Bool) (x : X) → cond b x x ≡ x
+one_either true x = refl
+one_either false x = refl
 
-terms_got : (r : List ℕ) (x : Option Data) (docs : Map Data) (q : List ℕ)
-    → terms_at (with_document r x docs) q ≡ cond (same q r) (unwrap_or (option_map document_terms x) []) (terms_at docs q)
-terms_got r x docs q = ap (λ o. unwrap_or (option_map document_terms o) []) (got r x docs q) ∙ terms_either (same q r) x (get docs q)
+-- what a reference has once the documents of references are among others
+got_all : (rs : List (List ℕ)) (docs m : Map Data) (q : List ℕ) → get (with_documents rs docs m) q ≡ cond (among q rs) (get docs q) (get m q)
+got_all [] docs m q = refl
+got_all (r ∷ rs) docs m q =
+    got_all rs docs (with_document r (get docs r) m) q
+    ∙ ap (cond (among q rs) (get docs q)) (got r (get docs r) m q)
+    ∙ go (same q r) refl
+  where
+    go : (b : Bool) → same q r ≡ b → cond (among q rs) (get docs q) (cond b (get docs r) (get m q)) ≡ cond (b || among q rs) (get docs q) (get m q)
+    go true e = ap (λ x. cond (among q rs) (get docs q) (get docs x)) (sym (text_is q r e)) ∙ one_either (among q rs) (get docs q)
+    go false e = refl
 
-struck_here : (n o : Bool) → ((n && true) || (not (o && true) && o)) ≡ n
+struck_here : (n o : Bool) → (n || (not o && o)) ≡ n
 struck_here true o = refl
 struck_here false true = refl
 struck_here false false = refl
 
-struck_elsewhere : (n o h : Bool) → ((n && false) || (not (o && false) && h)) ≡ h
-struck_elsewhere true true h = refl
-struck_elsewhere true false h = refl
-struck_elsewhere false true h = refl
-struck_elsewhere false false h = refl
-
--- the lists are those of the documents, once the old terms are struck and the new ones entered
-moved : (docs : Map Data) (lists : Lists) (r : List ℕ) (new : List Term) → AreLists docs lists → (t : Term) (q : List ℕ)
-    → has (set_at (entered_all r new (struck_all r (terms_at docs r) lists)) t) q ≡ has_term t (cond (same q r) new (terms_at docs q))
-moved docs lists r new are t q =
-    has-entered_all r new (struck_all r (terms_at docs r) lists) t q
-    ∙ ap (λ h. (has_term t new && same q r) || h) (has-struck_all r (terms_at docs r) lists t q ∙ ap (λ h. not (has_term t (terms_at docs r) && same q r) && h) (are t q))
-    ∙ go (same q r) refl
+-- with the terms of the listed documents struck and those of the present ones entered, the lists are those of the present ones
+pub lists_keep : (docs listed : Map Data) (rs : List (List ℕ)) (former present : List Posting) (old between new : Lists)
+    → IsPermutation (postings listed rs) former → IsPermutation (postings docs rs) present
+    → AreLists listed old → AreStruck former old between → AreEntered present between new → AreLists (with_documents rs docs listed) new
+lists_keep docs listed rs former present old between new f p are strikes enters t q =
+    enters t q
+    ∙ (λ i. sym (list_any-IsPermutation (is_posting t q) (postings docs rs) present p) i || (strikes t q ∙ gone) i)
+    ∙ ap (λ b. b || (not (has_posting t q (postings listed rs)) && has_term t (terms_at listed q))) (has-postings docs rs t q)
+    ∙ ap (λ b. (among q rs && has_term t (terms_at docs q)) || (not b && has_term t (terms_at listed q))) (has-postings listed rs t q)
+    ∙ go (among q rs)
+    ∙ ap (λ x. has_term t (unwrap_or (option_map document_terms x) [])) (sym (got_all rs docs listed q))
   where
-    go : (b : Bool) → same q r ≡ b → ((has_term t new && b) || (not (has_term t (terms_at docs r) && b) && has_term t (terms_at docs q))) ≡ has_term t (cond b new (terms_at docs q))
-    go true e =
-        ap (λ x. (has_term t new && true) || (not (has_term t (terms_at docs r) && true) && has_term t (terms_at docs x))) (text_is q r e)
-        ∙ struck_here (has_term t new) (has_term t (terms_at docs r))
-    go false e = struck_elsewhere (has_term t new) (has_term t (terms_at docs r)) (has_term t (terms_at docs q))
+    gone : (not (has_posting t q former) && has (set_at old t) q) ≡ (not (has_posting t q (postings listed rs)) && has_term t (terms_at listed q))
+    gone i = not (sym (list_any-IsPermutation (is_posting t q) (postings listed rs) former f) i) && are t q i
 
--- a reference with its terms struck and those of another document entered is listed with that document
-pub lists_keep : (docs listed : Map Data) (lists : Lists) (r : List ℕ) → AreLists listed lists
-    → AreLists (with_document r (get docs r) listed) (entered_all r (terms_at docs r) (struck_all r (terms_at listed r) lists))
-lists_keep docs listed lists r are t q = moved listed lists r (terms_at docs r) are t q ∙ ap (has_term t) (sym (terms_got r (get docs r) listed q))
+    go : (b : Bool) → ((b && has_term t (terms_at docs q)) || (not (b && has_term t (terms_at listed q)) && has_term t (terms_at listed q)))
+        ≡ has_term t (unwrap_or (option_map document_terms (cond b (get docs q) (get listed q))) [])
+    go true = struck_here (has_term t (terms_at docs q)) (has_term t (terms_at listed q))
+    go false = refl
 
 -- ---- the documents that wait
 
@@ -207,15 +355,15 @@ agree_noted pending docs listed r x agree q h =
     let apart = either_false (same q r) (has pending q) (sym (has-put r (tt {0}) pending q) ∙ h) in
     got r x docs q ∙ ap (λ b. cond b x (get docs q)) apart.0 ∙ agree q apart.1
 
--- once a document is listed, it need not be noted
-pub agree_listed : (pending : Set) (docs listed : Map Data) (r : List ℕ) → AgreeBeyond pending docs listed
-    → AgreeBeyond (without text_cmp r pending) docs (with_document r (get docs r) listed)
-agree_listed pending docs listed r agree q h =
-    go (same q r) refl (sym (has-without r pending q) ∙ h) ∙ sym (got r (get docs r) listed q)
+-- once documents are listed, they need not be noted
+pub agree_listed : (pending : Set) (docs listed : Map Data) (rs : List (List ℕ)) → AgreeBeyond pending docs listed
+    → AgreeBeyond (without_references rs pending) docs (with_documents rs docs listed)
+agree_listed pending docs listed rs agree q h =
+    go (among q rs) (sym (has-without_references rs pending q) ∙ h) ∙ sym (got_all rs docs listed q)
   where
-    go : (b : Bool) → same q r ≡ b → (not (same q r) && has pending q) ≡ false → get docs q ≡ cond (same q r) (get docs r) (get listed q)
-    go true e i = ap (get docs) (text_is q r e) ∙ ap (λ b. cond b (get docs r) (get listed q)) (sym e)
-    go false e i = agree q (ap (λ b. not b && has pending q) (sym e) ∙ i) ∙ ap (λ b. cond b (get docs r) (get listed q)) (sym e)
+    go : (b : Bool) → (not b && has pending q) ≡ false → get docs q ≡ cond b (get docs q) (get listed q)
+    go true i = refl
+    go false i = agree q i
 
 -- where nothing waits, the lists are those of the documents
 pub all_listed : (pending : Set) (docs listed : Map Data) (lists : Lists) → AreLists listed lists → AgreeBeyond pending docs listed

@@ -1,6 +1,6 @@
 -- The references of documents by term, and those that filters find.
-use Rattle.std.specs.Prelude.{◌≡◌, ℕ, List, [], ◌∷◌, length, map, Bool, false, Option, Some, None, ◌==◌, ◌||◌, if◌then◌else◌, is_some, option_map, unwrap_or}
-use Rattle.std.specs.List.{filter, filter_map, list_any, list_all}
+use Rattle.std.specs.Prelude.{◌≡◌, ℕ, List, [], ◌∷◌, length, map, Bool, false, Option, Some, None, not, ◌==◌, ◌&&◌, ◌||◌, if◌then◌else◌, is_some, option_map, unwrap_or}
+use Rattle.std.specs.List.{filter, filter_map, flat_map, list_any, list_all}
 use Rattle.std.specs.Ordering.{eq_by_cmp}
 use Rattle.std.specs.declared.cmp.Ordering.{Ordering}
 use Rattle.cat_tree.specs.Data.{Data}
@@ -56,27 +56,52 @@ abbrev pub with_document : List ℕ → Option Data → Map Data → Map Data
 with_document r None docs = without text_cmp r docs
 with_document r (Some d) docs = put text_cmp r d docs
 
+-- with the documents that the references have among others, or with none there
+abbrev pub with_documents : List (List ℕ) → Map Data → Map Data → Map Data
+with_documents [] docs m = m
+with_documents (r ∷ rs) docs m = with_documents rs docs (with_document r (get docs r) m)
+
+-- these references are in the set, too
+abbrev pub with_references : List (List ℕ) → Set → Set
+with_references [] s = s
+with_references (r ∷ rs) s = with_references rs (put text_cmp r (tt {0}) s)
+
+-- the set without these references
+abbrev pub without_references : List (List ℕ) → Set → Set
+without_references [] s = s
+without_references (r ∷ rs) s = without_references rs (without text_cmp r s)
+
 -- these references under the term, which goes where there are none
 abbrev pub with_set : Term → Set → Lists → Lists
 with_set t s lists = if length s == 0 then without term_cmp t lists else put term_cmp t s lists
 
--- the reference comes under the term
-abbrev pub entered : List ℕ → Term → Lists → Lists
-entered r t lists = put term_cmp t (put text_cmp r (tt {0}) (set_at lists t)) lists
+-- the references come under the term
+abbrev pub entered : Term → List (List ℕ) → Lists → Lists
+entered t rs lists = put term_cmp t (with_references rs (set_at lists t)) lists
 
--- the reference comes under each of the terms
-abbrev pub entered_all : List ℕ → List Term → Lists → Lists
-entered_all r [] lists = lists
-entered_all r (t ∷ ts) lists = entered_all r ts (entered r t lists)
+-- the references go from under the term
+abbrev pub struck : Term → List (List ℕ) → Lists → Lists
+struck t rs lists = with_set t (without_references rs (set_at lists t)) lists
 
--- the reference goes from under the term
-abbrev pub struck : List ℕ → Term → Lists → Lists
-struck r t lists = with_set t (without text_cmp r (set_at lists t)) lists
+-- a term and a reference under it
+abbrev pub Posting : Type 0
+Posting = Term × List ℕ
 
--- the reference goes from under each of the terms
-abbrev pub struck_all : List ℕ → List Term → Lists → Lists
-struck_all r [] lists = lists
-struck_all r (t ∷ ts) lists = struck_all r ts (struck r t lists)
+-- the terms of the references' documents, each with its reference
+abbrev pub postings : Map Data → List (List ℕ) → List Posting
+postings docs rs = flat_map (λ r. map (λ t. (t, r)) (terms_at docs r)) rs
+
+-- one of the postings is this one
+abbrev pub has_posting : Term → List ℕ → List Posting → Bool
+has_posting t r ps = list_any (λ p. eq_by_cmp term_cmp t p.0 && eq_by_cmp text_cmp r p.1) ps
+
+-- a reference stands under a term where it did before, and where a posting says so
+abbrev pub AreEntered : List Posting → Lists → Lists → Type 0
+AreEntered ps old new = (t : Term) (r : List ℕ) → has (set_at new t) r ≡ (has_posting t r ps || has (set_at old t) r)
+
+-- a reference stands under a term where it did before, unless a posting says so
+abbrev pub AreStruck : List Posting → Lists → Lists → Type 0
+AreStruck ps old new = (t : Term) (r : List ℕ) → has (set_at new t) r ≡ (not (has_posting t r ps) && has (set_at old t) r)
 
 -- ---- finding
 

@@ -1,18 +1,18 @@
 //! Documents by reference, with the references under each term of their search rows.
-ghost use Rattle.std.specs.Prelude.{◌≡◌, [], IfOk, IfSome, OnOk, is_ok, length, map, option_map, slice_get, unwrap_or, if◌then◌else◌};
-ghost use Rattle.std.specs.Arc.{arc_value};
+ghost use Rattle.std.specs.Prelude.{◌≡◌, ◌∷◌, [], IfOk, IfSome, OnOk, is_ok, length, map, option_map, slice_get, unwrap_or, if◌then◌else◌};
 ghost use Rattle.cat_tree.specs.View.{data_of};
 ghost use Rattle.cat_table.specs.Rows.{without};
 ghost use Rattle.cat_table.specs.Table.{get, put, text_cmp};
 ghost use Rattle.cat_search.specs.Filter.{matching};
-ghost use Rattle.cat_search.specs.Index.{AreLists, accepted, accepts_all, all_accepted, at_key, by_key, documents_of, entered, entered_all, found, has_free, set_at, struck, struck_all, terms_at, union, with_condition, with_document, with_set};
-ghost use Rattle.cat_search.specs.Terms.{condition_term, document_terms};
+ghost use Rattle.cat_search.specs.Index.{AreEntered, AreLists, AreStruck, accepted, accepts_all, all_accepted, at_key, by_key, documents_of, entered, found, has_free, set_at, struck, union, with_condition, with_document, with_documents, with_set, without_references};
+ghost use Rattle.cat_search.specs.Terms.{condition_term};
 
 use crate::condition::{Condition, Filter};
 use crate::corrections::corrected;
 use crate::folded::lower;
+use crate::postings::{Entry, Posting, first_entries, postings, split_run, with_run, without_run};
 use crate::sets::{Set, common, union};
-use crate::terms::{Term, condition_term, document_terms};
+use crate::terms::{Term, condition_term};
 use cat_ref::reference::Ref;
 use cat_table::listing::Copied;
 use cat_table::map::Map;
@@ -21,7 +21,6 @@ use cat_tree::tree::Tree;
 use cat_types::node::Node;
 use std::alloc::{AllocError, Global};
 use std::marker::Model;
-use std::sync::Arc;
 
 /// The references under each term.
 pub type Lists = Map<Term, Set>;
@@ -97,11 +96,6 @@ impl Index {
         &self.documents
     }
 
-    // How many references wait to be listed.
-    fn pending(&self) -> usize {
-        self.pending.len()
-    }
-
     /// Lends the references under each term of the documents; none where a reference waits to be listed.
     pub fn lists(&self) -> Option<&Lists>
         ensures { IfSome result (λ l. AreLists self.now l.now) }
@@ -149,35 +143,25 @@ impl Index {
         Ok(())
     }
 
-    /// Lists at most so many of the documents that wait, in order of reference. Where memory is wanted, the others wait on.
+    /// Lists at most so many of the documents that wait, in order of reference. The references under a term change once for all
+    /// of those documents. Where memory is wanted, all wait on.
     pub fn list_pending(&mut self, alloc: Global, most: usize) -> Result<(), AllocError>
         ensures { self.new ≡ self.old }
     {
-        for _ in 0..most.min(self.pending()) {
-            self.list_first(alloc)?;
-        }
-        Ok(())
-    }
-
-    // Lists the first document that waits, if there is one. Where memory is wanted, it waits on.
-    fn list_first(&mut self, alloc: Global) -> Result<(), AllocError>
-        ensures { self.new ≡ self.old }
-    {
-        let Some((reference, _)) = self.pending.at(0) else {
-            return Ok(());
-        };
-        let next = self.relisted(alloc, reference)?;
+        let next = self.relisted(alloc, most)?;
         *self = next;
         Ok(())
     }
 
-    // The index with the present document of a reference listed.
-    fn relisted(&self, alloc: Global, reference: &Ref) -> Result<Index, AllocError>
+    // The index with the present documents of the first references that wait listed, at most so many.
+    fn relisted(&self, alloc: Global, most: usize) -> Result<Index, AllocError>
         ensures { IfOk result (λ i. i ≡ self.now) }
     {
-        let lists = relisted(alloc, &self.lists, &self.listed, &self.documents, reference)?;
-        let listed = with_present(alloc, &self.listed, &self.documents, reference)?;
-        let pending = without_reference(alloc, &self.pending, reference)?;
+        let entries = first_entries(alloc, &self.pending, most)?;
+        let entries = entries.as_slice();
+        let lists = relisted(alloc, &self.lists, &self.listed, &self.documents, entries)?;
+        let listed = with_present(alloc, &self.listed, &self.documents, entries)?;
+        let pending = without_entries(alloc, &self.pending, entries)?;
         Ok(Index {
             documents: self.documents.share()?,
             listed,
@@ -200,6 +184,21 @@ impl Index {
         self.documents.in_order();
         found.in_order();
         Ok(found.keys(alloc)?.into_vec())
+    }
+
+    /// How many documents one of the filters accepts; without a filter all of them are counted. Where there is one condition and no document
+    /// waits, it takes no longer where more documents match.
+    pub fn count(&self, alloc: Global, filters: &[Filter]) -> Result<usize, AllocError>
+        ensures { IfOk result (λ n. n ≡ length (found filters.now self.now)) }
+    {
+        if accepts_all(filters) {
+            return Ok(self.documents.len());
+        }
+        let listed = all_accepted(alloc, &self.lists, filters)?;
+        let found = corrected(alloc, &self.documents, &self.pending, filters, listed)?;
+        self.documents.in_order();
+        found.in_order();
+        Ok(found.len())
     }
 
     /// Lends the documents that one of the filters accepts, with their references, in order; without a filter all of them.
@@ -238,32 +237,47 @@ fn with_reference(alloc: Global, references: &Set, reference: &Ref) -> Result<Se
     Ok(set)
 }
 
-// The references without this one.
-fn without_reference(alloc: Global, references: &Set, reference: &Ref) -> Result<Set, AllocError>
-    ensures { IfOk result (λ s. s ≡ without text_cmp reference.now references.now) }
+// The references without those of the entries.
+fn without_entries(alloc: Global, references: &Set, entries: &[Entry]) -> Result<Set, AllocError>
+    ensures { IfOk result (λ s. s ≡ without_references entries.now references.now) }
 {
     let mut set = references.share()?;
-    set.remove(alloc, reference)?;
+    for entry in entries {
+        set.remove(alloc, entry.reference())?;
+    }
     Ok(set)
 }
 
-// The listed documents, with the document that the reference has at present, or with none of it.
+// The document that the reference has at present is listed, or none of it.
+fn list_present(
+    alloc: Global,
+    listed: &mut Map<Ref, Node>,
+    documents: &Map<Ref, Node>,
+    reference: &Ref,
+) -> Result<(), AllocError>
+    ensures { OnOk result (listed.new ≡ with_document reference.now (get documents.now reference.now) listed.old) }
+{
+    match documents.get(reference) {
+        Some(document) => {
+            let document = document.duplicate(alloc)?;
+            listed.put(alloc, reference.copy(alloc)?, document)
+        }
+        None => listed.remove(alloc, reference),
+    }
+}
+
+// The listed documents, with the documents that the references have at present, or with none of them.
 fn with_present(
     alloc: Global,
     listed: &Map<Ref, Node>,
     documents: &Map<Ref, Node>,
-    reference: &Ref,
+    entries: &[Entry],
 ) -> Result<Map<Ref, Node>, AllocError>
-    ensures { IfOk result (λ m. m ≡ with_document reference.now (get documents.now reference.now) listed.now) }
+    ensures { IfOk result (λ m. m ≡ with_documents entries.now documents.now listed.now) }
 {
     let mut listed = listed.share()?;
-    match documents.get(reference) {
-        Some(document) => {
-            listed.put(alloc, reference.copy(alloc)?, document.duplicate(alloc)?)?;
-        }
-        None => {
-            listed.remove(alloc, reference)?;
-        }
+    for entry in entries {
+        list_present(alloc, &mut listed, documents, entry.reference())?;
     }
     Ok(listed)
 }
@@ -289,113 +303,81 @@ fn put_set(alloc: Global, lists: &mut Lists, term: &Term, set: Set) -> Result<()
     lists.put(alloc, term, set)
 }
 
-// The set with the reference of the entry.
-fn with_entry(alloc: Global, set: Set, entry: &Arc<(Ref, ()), Global>) -> Result<Set, AllocError>
-    ensures { IfOk result (λ s. s ≡ put text_cmp (arc_value entry.now).0 (tt {0}) set) }
-{
-    let mut set = set;
-    set.put_shared(alloc, Arc::try_clone(entry)?)?;
-    Ok(set)
-}
-
-// The reference of the entry comes under the term.
-fn enter(
+// The references of the postings come under the term of the first one.
+fn enter_run(
     alloc: Global,
     lists: &mut Lists,
-    term: Term,
-    entry: &Arc<(Ref, ()), Global>,
+    first: &Posting,
+    run: &[Posting],
 ) -> Result<(), AllocError>
-    ensures { OnOk result (lists.new ≡ entered (arc_value entry.now).0 term lists.old) }
+    ensures { OnOk result (lists.new ≡ entered first.now.0 (first.now.1 ∷ map (λ p. p.1) run.now) lists.old) }
 {
-    let set = with_entry(alloc, set_at(lists, &term)?, entry)?;
+    let mut set = set_at(lists, &first.0)?;
+    first.1.enter(alloc, &mut set)?;
+    let set = with_run(alloc, set, run)?;
+    let term = first.0.duplicate(alloc)?;
     lists.put(alloc, term, set)
 }
 
-// The reference comes under each term of the document.
-fn enter_all(
-    alloc: Global,
-    lists: &mut Lists,
-    reference: &Ref,
-    document: &Node,
-) -> Result<(), AllocError>
-    ensures { OnOk result (lists.new ≡ entered_all reference.now (document_terms document.now) lists.old) }
+// The reference of each posting comes under its term. Where postings of one term stand together, what is under the term
+// changes once.
+fn enter(alloc: Global, lists: &mut Lists, postings: &[Posting]) -> Result<(), AllocError>
+    ensures { OnOk result (AreEntered postings.now lists.old lists.new) }
 {
-    let entry = Arc::new(alloc, (reference.copy(alloc)?, ()))?;
-    for term in document_terms(alloc, document.tree())? {
-        enter(alloc, lists, term, &entry)?;
+    let mut left = postings;
+    while let [first, rest @ ..] = left {
+        let (run, others) = split_run(&first.0, rest);
+        enter_run(alloc, lists, first, run)?;
+        left = others;
     }
     Ok(())
 }
 
-fn strike(alloc: Global, lists: &mut Lists, term: &Term, reference: &Ref) -> Result<(), AllocError>
-    ensures { OnOk result (lists.new ≡ struck reference.now term.now lists.old) }
-{
-    let mut set = set_at(lists, term)?;
-    set.remove(alloc, reference)?;
-    put_set(alloc, lists, term, set)
-}
-
-fn strike_all(
+// The references of the postings go from under the term of the first one.
+fn strike_run(
     alloc: Global,
     lists: &mut Lists,
-    terms: &[Term],
-    reference: &Ref,
+    first: &Posting,
+    run: &[Posting],
 ) -> Result<(), AllocError>
-    ensures { OnOk result (lists.new ≡ struck_all reference.now terms.now lists.old) }
+    ensures { OnOk result (lists.new ≡ struck first.now.0 (first.now.1 ∷ map (λ p. p.1) run.now) lists.old) }
 {
-    for term in terms {
-        strike(alloc, lists, term, reference)?;
+    let mut set = set_at(lists, &first.0)?;
+    set.remove(alloc, first.1.reference())?;
+    let set = without_run(alloc, set, run)?;
+    put_set(alloc, lists, &first.0, set)
+}
+
+// The reference of each posting goes from under its term. Where postings of one term stand together, what is under the term
+// changes once.
+fn strike(alloc: Global, lists: &mut Lists, postings: &[Posting]) -> Result<(), AllocError>
+    ensures { OnOk result (AreStruck postings.now lists.old lists.new) }
+{
+    let mut left = postings;
+    while let [first, rest @ ..] = left {
+        let (run, others) = split_run(&first.0, rest);
+        strike_run(alloc, lists, first, run)?;
+        left = others;
     }
     Ok(())
 }
 
-// The reference comes under each term of the document that it has at present.
-fn enter_present(
-    alloc: Global,
-    lists: &mut Lists,
-    documents: &Map<Ref, Node>,
-    reference: &Ref,
-) -> Result<(), AllocError>
-    ensures { OnOk result (lists.new ≡ entered_all reference.now (terms_at documents.now reference.now) lists.old) }
-{
-    match documents.get(reference) {
-        Some(document) => enter_all(alloc, lists, reference, document),
-        None => Ok(()),
-    }
-}
-
-// The reference goes from under each term of the document that it is listed with.
-fn strike_listed(
-    alloc: Global,
-    lists: &mut Lists,
-    listed: &Map<Ref, Node>,
-    reference: &Ref,
-) -> Result<(), AllocError>
-    ensures { OnOk result (lists.new ≡ struck_all reference.now (terms_at listed.now reference.now) lists.old) }
-{
-    match listed.get(reference) {
-        Some(document) => {
-            let terms = document_terms(alloc, document.tree())?;
-            strike_all(alloc, lists, terms.as_slice(), reference)
-        }
-        None => Ok(()),
-    }
-}
-
-// The lists with the reference under the terms of its present document, in place of those of the listed one.
+// The lists with the references under the terms of their present documents, in place of those of the listed ones.
 fn relisted(
     alloc: Global,
     lists: &Lists,
     listed: &Map<Ref, Node>,
     documents: &Map<Ref, Node>,
-    reference: &Ref,
+    entries: &[Entry],
 ) -> Result<Lists, AllocError>
-    ensures { IfOk result (λ l. l ≡ entered_all reference.now (terms_at documents.now reference.now)
-        (struck_all reference.now (terms_at listed.now reference.now) lists.now)) }
+    requires { AreLists listed.now lists.now }
+    ensures { IfOk result (λ l. AreLists (with_documents entries.now documents.now listed.now) l) }
 {
     let mut lists = lists.share()?;
-    strike_listed(alloc, &mut lists, listed, reference)?;
-    enter_present(alloc, &mut lists, documents, reference)?;
+    let former = postings(alloc, listed, entries)?;
+    strike(alloc, &mut lists, former.as_slice())?;
+    let present = postings(alloc, documents, entries)?;
+    enter(alloc, &mut lists, present.as_slice())?;
     Ok(lists)
 }
 

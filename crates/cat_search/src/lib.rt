@@ -22,6 +22,7 @@ pub mod folded;
 pub mod index;
 pub mod matches;
 pub mod pieces;
+pub mod postings;
 pub mod read;
 pub mod sets;
 pub mod terms;

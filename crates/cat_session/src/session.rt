@@ -1,16 +1,17 @@
 //! A session's state, and its answer to a line.
-ghost use Rattle.std.specs.Prelude.{◌≡◌, ◌<◌, ◌^◌, [], IfOk, IsTrue, OnErr};
+ghost use Rattle.std.specs.Prelude.{◌≡◌, ◌<◌, ◌^◌, [], IfOk, IsTrue, OnErr, option_map};
 ghost use Rattle.std.specs.FinMap.Entries.{is_sorted};
 ghost use Rattle.cat_commands.specs.declared.line.Line.TheVariants as asks;
 ghost use Rattle.cat_commands.specs.Ready.{IsReady};
 ghost use Rattle.cat_desk.specs.Deed.{Deed, deed_of};
 ghost use Rattle.cat_loop.specs.Word.{AnswersLine};
+ghost use Rattle.cat_model.specs.Sound.{AreSmall, Sound};
 ghost use Rattle.cat_model.specs.Step.{next_taken};
 ghost use Rattle.cat_session.specs.Carried.{Carries, CarriesDeed, IsShort, Stays, order_taken};
 ghost use Rattle.cat_session.specs.Replies.{IsLineRefusal};
 ghost use Rattle.cat_transcript.specs.Program.{program_settings, ruled_after, ruled_reply, session_start};
 ghost use Rattle.cat_table.specs.Table.{text_cmp};
-ghost use Rattle.cat_transcript.specs.Session.{add_order};
+ghost use Rattle.cat_transcript.specs.Session.{add_order, order_numbered};
 
 use crate::orders::{keep, keep_stitch, order_in, order_numbered, room_for, stitch_in};
 use crate::replies::{ROOM, ended, line_refused, push_reply, unknown};
@@ -165,6 +166,25 @@ impl<L: Layers> Session<L> {
         ensures records { IsTrue (is_sorted text_cmp result.now.records) }
     {
         self.desk.catalogue().view()
+    }
+
+    /// All that the catalogue holds, of which what must hold between two events holds.
+    pub fn sound_state(&self) -> &State
+        ensures state { result.now ≡ self.now.session.state }
+        ensures sound { Sound L.rules self.now.session.state }
+        ensures small { AreSmall self.now.session.state }
+    {
+        self.desk.catalogue().sound_state()
+    }
+
+    /// The reference of the first order with this token that was handed out.
+    pub fn order_reference(&self, token: u64) -> Option<&Ref>
+        ensures { option_map (λ r. r.now) result ≡ option_map (λ x. x.reference) (order_numbered token self.now.session.orders) }
+    {
+        match order_numbered(self.orders.as_slice(), token) {
+            Some(order) => Some(&order.reference),
+            None => None,
+        }
     }
 
     /// A copy of what the catalogue holds, to which the session can be put back. The only error is want of memory.

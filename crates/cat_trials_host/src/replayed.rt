@@ -270,15 +270,26 @@ fn inputs_in(journal: &[Entry]) -> u64 {
     inputs
 }
 
-// What a catalogue has that played a journal again, if it could be played.
-fn played(alloc: Global, journal: &[Entry]) -> Result<Option<Vec<u8>>, Fail> {
-    let mut player = Player::new(alloc);
+// What a player's catalogue has after a journal, if it could be played.
+fn played_on(
+    alloc: Global,
+    player: &mut Player,
+    journal: &[Entry],
+) -> Result<Option<Vec<u8>>, Fail> {
     for entry in journal {
         if !player.play(alloc, &entry.noted)? {
             return Ok(None);
         }
     }
     Ok(Some(shown(alloc, player.catalogue.view())?))
+}
+
+// What a catalogue has that played a journal again, if it could be played.
+fn played(alloc: Global, journal: &[Entry]) -> Result<Option<Vec<u8>>, Fail> {
+    let mut player = Player::new(alloc);
+    let text = played_on(alloc, &mut player, journal);
+    drop(player);
+    text
 }
 
 fn compared(alloc: Global, book: &Pages) -> Result<Comparison, Fail> {

@@ -2,32 +2,42 @@
 use cat_disk::MemoryDisk;
 use cat_journal::keeper::JournalKeeper;
 use cat_keeper::keeper::{Committed, Keeper, Loaded, Place};
-use cat_keeper::rows::{Batch, Change};
+use cat_keeper::rows::{Batch, Change, StoredRows};
 use cat_keeper::table::Table;
 use cat_table::map::Map;
 use cat_tree::text::Text;
 use std::alloc::{AllocError, Global};
 use std::test::Fail;
 
-// The rows that a load over these bytes gives, in one text, as `shelf file:/a="{}";`.
-fn loaded(alloc: Global, bytes: &[u8]) -> Result<String, AllocError> {
-    let mut keeper = JournalKeeper::over(MemoryDisk::new(bytes.to_vec(alloc)?, Vec::new(alloc)));
+// Rows in one text, as `shelf file:/a="{}";`.
+fn shown(alloc: Global, rows: &StoredRows) -> Result<String, AllocError> {
     let mut text = String::new(alloc);
-    match keeper.load(alloc, &Place::Nowhere) {
-        Loaded::Rows(rows) => {
-            for row in rows.iter() {
-                text.push_str(row.0.0.name())?;
-                text.push_str(" ")?;
-                text.push_str(row.0.1.as_str())?;
-                text.push_str("=")?;
-                text.push_str(row.1.as_str())?;
-                text.push_str(";")?;
-            }
-        }
-        Loaded::Failed => text.push_str("failed")?,
-        Loaded::NoMemory => text.push_str("no memory")?,
+    for row in rows.iter() {
+        text.push_str(row.0.0.name())?;
+        text.push_str(" ")?;
+        text.push_str(row.0.1.as_str())?;
+        text.push_str("=")?;
+        text.push_str(row.1.as_str())?;
+        text.push_str(";")?;
     }
     Ok(text)
+}
+
+// The rows that a load over these bytes gives, in one text.
+fn loaded(alloc: Global, bytes: &[u8]) -> Result<String, AllocError> {
+    let disk = MemoryDisk::new(bytes.to_vec(alloc)?, Vec::new(alloc));
+    let mut keeper = JournalKeeper::over(disk);
+    let loaded = keeper.load(alloc, &Place::Nowhere);
+    drop(keeper);
+    match loaded {
+        Loaded::Rows(rows) => {
+            let text = shown(alloc, &rows);
+            drop(rows);
+            text
+        }
+        Loaded::Failed => String::from_str(alloc, "failed"),
+        Loaded::NoMemory => String::from_str(alloc, "no memory"),
+    }
 }
 
 #[test]

@@ -1,11 +1,11 @@
-use Rattle.std.proofs.Common.{ap, ◌∙◌}
-use Rattle.std.specs.Arc.{arc_value}
-use Rattle.cat_table.specs.Table.{put, text_cmp}
-use Rattle.cat_search.specs.Index.{term_cmp}
-use Rattle.cat_search.proofs.Finds.{after_change}
+use Rattle.std.proofs.Common.{subst}
+use Rattle.cat_search.specs.Index.{Lists, AreEntered}
+use Rattle.cat_search.proofs.Listed.{enters_left}
 use Rattle.cat_search.proofs.index.enter.Goals as goal
 
-pub returns : goal.returns
-returns c =
-    after_change c.put.result c.put.new.self _ _ _ c.put.ensures
-    (ap (λ s. put term_cmp c.args.term s c.args.lists.now) (c.in_ok-set.ensures ∙ ap (put text_cmp (arc_value c.args.entry.now).0 (tt {0})) c.in_ok-set_at.ensures))
+pub loop-left-preserved : goal.loop-left-preserved
+loop-left-preserved c new h =
+    c.loop-left.invariant new
+    (enters_left c.loop-left.left.now c.first-item.result c.split_run.result.0.now c.split_run.result.1.now c.loop-left.lists new
+    c.in-len1-up.len_at_least c.first-item.is c.split_run.ensures.alike c.split_run.ensures.parts
+    (subst (λ (lists : Lists). AreEntered c.split_run.result.1.now lists new) c.in_ok-enter_run.ensures h))
