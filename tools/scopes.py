@@ -79,7 +79,17 @@ def spec_module(crate, names):
         path = os.path.join(TOP, 'crates', crate, 'specs', *names[:size]) + '.antt'
         if os.path.isfile(path):
             return module(path), names[size:]
-    return None, names
+    lower = handed_on(crate).get(names[0]) if names else None
+    return spec_module(lower, names) if lower else (None, names)
+
+
+@functools.lru_cache(None)
+def handed_on(crate):
+    """The files of lower crates' specs/ that a crate hands on under its own name, each with the crate that it stands in."""
+    path = os.path.join(TOP, 'crates', crate, 'specs', 'Lib.antt')
+    lines = open(path, encoding='utf-8').read().split('\n') if os.path.isfile(path) else []
+    found = (re.match(r'^pub use Rattle\.(\w+)\.specs\.(\w+)$', line) for line in lines)
+    return {match.group(2): match.group(1) for match in found if match}
 
 
 def declared(crate, names, name):

@@ -94,13 +94,9 @@ impl Case {
         asked.split_once(' ').unwrap_or((asked, ""))
     }
 
-    /// The name that the line gives to a text, and the text, if it does.
-    pub fn named(&self, alloc: Global) -> Result<Option<(String, Vec<u8>)>, AllocError> {
-        if self.text(0) != "let" {
-            return Ok(None);
-        }
-        let name = String::from_str(alloc, self.text(1))?;
-        Ok(Some((name, self.bytes(2).to_vec(alloc)?)))
+    /// Whether the line gives a name to a text.
+    pub fn names_text(&self) -> bool {
+        self.text(0) == "let"
     }
 
     /// How many fields stand behind the question.

@@ -1,10 +1,11 @@
 //! Lines with their commands.
 use crate::case::Case;
 use crate::fault::Fault;
+use crate::shown::{push_number, push_texts};
 use cat_commands::line::Line;
 use cat_commands::read::read_line;
 use cat_query::ask::Ask;
-use std::alloc::Global;
+use std::alloc::{AllocError, Global};
 
 // The question, and its text or its number.
 fn seen_ask(ask: &Ask) -> (&str, &str, u64) {
@@ -41,9 +42,15 @@ fn seen(line: &Line) -> (&str, &str, u64) {
     }
 }
 
-/// The command of a line, with its text in brackets and its number.
-pub fn command(alloc: Global, case: &Case) -> Result<String, Fault> {
+// Puts the command of a line behind what stands so far.
+fn push_command(out: &mut String, line: &Line) -> Result<(), AllocError> {
+    let (command, text, number) = seen(line);
+    push_texts(out, &[command, " [", text, "] "])?;
+    push_number(out, number)
+}
+
+/// Puts the command of a line, with its text in brackets and its number, behind what stands so far.
+pub fn command(out: &mut String, alloc: Global, case: &Case) -> Result<(), Fault> {
     let line = read_line(alloc, case.bytes(1))?;
-    let (command, text, number) = seen(&line);
-    Ok(format!(in alloc; "{command} [{text}] {number}")?)
+    push_command(out, &line).map_err(Fault::Memory)
 }

@@ -1,64 +1,98 @@
 //! Bodies of mutations and shelf texts.
 use crate::case::Case;
 use crate::fault::Fault;
-use crate::shown::push_word;
+use crate::shown::{push_counted, push_texts, push_word};
 use cat_inputs::form::Form;
 use cat_inputs::input::read_mutation;
-use cat_inputs::shelf::shelf_list;
+use cat_inputs::shelf::{Listed, shelf_list};
+use cat_ref::reference::Ref;
+use cat_tree::text::Text;
 use cat_types::input::{Item, Mutation};
 use std::alloc::{AllocError, Global};
 
+// A key, or that there is none.
+fn key_text(key: &Option<Text>) -> &str {
+    match key {
+        Some(key) => key.as_str(),
+        None => "none",
+    }
+}
+
 // Puts the references of items, each with its key, behind what stands so far.
-fn push_items(out: &mut String, alloc: Global, items: &[Item]) -> Result<(), AllocError> {
+fn push_items(out: &mut String, items: &[Item]) -> Result<(), AllocError> {
     for item in items {
-        let reference = item.reference.as_str();
-        let key = match &item.key {
-            Some(key) => key.as_str(),
-            None => "none",
-        };
-        out.push_str(format!(in alloc; " {reference}@{key}")?.as_str())?;
+        push_texts(
+            out,
+            &[" ", item.reference.as_str(), "@", key_text(&item.key)],
+        )?;
     }
     Ok(())
 }
 
-// The serial of a mutation, its items, and the references that it removes.
-fn mutation(alloc: Global, form: Form, case: &Case) -> Result<String, Fault> {
-    match read_mutation(alloc, form, case.bytes(1))? {
-        Mutation::Full { serial, items } => {
-            let mut out = format!(in alloc; "full {serial}")?;
-            push_items(&mut out, alloc, items.as_slice())?;
-            Ok(out)
-        }
+// Puts references that are removed behind what stands so far.
+fn push_removed(out: &mut String, removed: &[Ref]) -> Result<(), AllocError> {
+    for reference in removed {
+        push_texts(out, &[" -", reference.as_str()])?;
+    }
+    Ok(())
+}
+
+// Puts what all items are replaced by behind what stands so far.
+fn push_full(out: &mut String, serial: u64, items: &[Item]) -> Result<(), AllocError> {
+    push_counted(out, "full ", serial)?;
+    push_items(out, items)
+}
+
+// Puts the items that are added, and the references that are removed, behind what stands so far.
+fn push_delta(
+    out: &mut String,
+    serial: u64,
+    added: &[Item],
+    removed: &[Ref],
+) -> Result<(), AllocError> {
+    push_counted(out, "delta ", serial)?;
+    push_items(out, added)?;
+    push_removed(out, removed)
+}
+
+// Puts the serial of a mutation, its items, and the references that it removes behind what stands so far.
+fn push_mutation(out: &mut String, mutation: &Mutation) -> Result<(), AllocError> {
+    match mutation {
+        Mutation::Full { serial, items } => push_full(out, *serial, items.as_slice()),
         Mutation::Delta {
             serial,
             added,
             removed,
-        } => {
-            let mut out = format!(in alloc; "delta {serial}")?;
-            push_items(&mut out, alloc, added.as_slice())?;
-            for reference in removed.as_slice() {
-                out.push_str(format!(in alloc; " -{}", reference.as_str())?.as_str())?;
-            }
-            Ok(out)
-        }
+        } => push_delta(out, *serial, added.as_slice(), removed.as_slice()),
     }
 }
 
-// The references of the descriptors that a shelf text lists.
-fn listed(alloc: Global, case: &Case) -> Result<String, Fault> {
-    let mut out = String::new(alloc);
-    for listed in shelf_list(alloc, case.bytes(1))?.as_slice() {
-        push_word(&mut out, listed.reference.as_str())?;
-    }
-    Ok(out)
+// Puts the mutation of a body behind what stands so far.
+fn mutation(out: &mut String, alloc: Global, form: Form, body: &[u8]) -> Result<(), Fault> {
+    let mutation = read_mutation(alloc, form, body)?;
+    push_mutation(out, &mutation).map_err(Fault::Memory)
 }
 
-/// What the text of the first field is read as.
-pub fn answer(alloc: Global, question: &str, case: &Case) -> Result<String, Fault> {
+// Puts the references of descriptors that are listed behind what stands so far.
+fn push_listed(out: &mut String, list: &[Listed]) -> Result<(), AllocError> {
+    for listed in list {
+        push_word(out, listed.reference.as_str())?;
+    }
+    Ok(())
+}
+
+// Puts the references of the descriptors that a shelf text lists behind what stands so far.
+fn listed(out: &mut String, alloc: Global, body: &[u8]) -> Result<(), Fault> {
+    let list = shelf_list(alloc, body)?;
+    push_listed(out, list.as_slice()).map_err(Fault::Memory)
+}
+
+/// Puts what the text of the first field is read as behind what stands so far.
+pub fn answer(out: &mut String, alloc: Global, question: &str, case: &Case) -> Result<(), Fault> {
     match question {
-        "full" => mutation(alloc, Form::Full, case),
-        "delta" => mutation(alloc, Form::Delta, case),
-        "shelf" => listed(alloc, case),
+        "full" => mutation(out, alloc, Form::Full, case.bytes(1)),
+        "delta" => mutation(out, alloc, Form::Delta, case.bytes(1)),
+        "shelf" => listed(out, alloc, case.bytes(1)),
         _ => Err(Fault::Question),
     }
 }

@@ -3,70 +3,131 @@ use crate::case::Case;
 use crate::fault::Fault;
 use crate::shown::push_word;
 use cat_links::links::{EmitChange, Links};
-use cat_ref::reference::parse;
+use cat_ref::reference::{Ref, parse};
 use cat_table::listing::Listing;
 use cat_types::relation::{RelKind, Relation};
-use std::alloc::Global;
+use std::alloc::{AllocError, Global};
+
+// The reference of a text that says its kind.
+fn reference(alloc: Global, text: &str) -> Result<Ref, Fault> {
+    Ok(parse(alloc, text, None, "default")?)
+}
+
+// Puts that a source depends on a target behind the relations so far.
+fn push_relation(
+    alloc: Global,
+    relations: &mut Listing<Relation>,
+    source: &str,
+    target: &str,
+) -> Result<(), Fault> {
+    let source = reference(alloc, source)?;
+    let target = reference(alloc, target)?;
+    let relation = Relation {
+        source,
+        kind: RelKind::DependsOn,
+        target,
+    };
+    relations.push(relation).map_err(Fault::Memory)
+}
+
+// Puts the relation of a word, as `api:a>api:x`, behind the relations so far.
+fn push_entry(alloc: Global, relations: &mut Listing<Relation>, word: &str) -> Result<(), Fault> {
+    match word.split_once('>') {
+        Some((source, target)) => push_relation(alloc, relations, source, target),
+        None => Ok(()),
+    }
+}
+
+fn push_entries(
+    alloc: Global,
+    relations: &mut Listing<Relation>,
+    entries: &str,
+) -> Result<(), Fault> {
+    for word in entries.split(' ') {
+        push_entry(alloc, relations, word)?;
+    }
+    Ok(())
+}
 
 // That an emitter emits, for each two references, that the first depends on the second, told as `api:a: api:b>api:x`.
 fn change(alloc: Global, emitter: &str, entries: &str) -> Result<EmitChange, Fault> {
     let mut relations = Listing::new(alloc);
-    for word in entries.split(' ') {
-        if let Some((source, target)) = word.split_once('>') {
-            relations.push(Relation {
-                source: parse(alloc, source, None, "default")?,
-                kind: RelKind::DependsOn,
-                target: parse(alloc, target, None, "default")?,
-            })?;
-        }
-    }
-    let emitter = parse(alloc, emitter, None, "default")?;
+    push_entries(alloc, &mut relations, entries)?;
+    let emitter = reference(alloc, emitter)?;
     Ok(EmitChange { emitter, relations })
 }
 
-// Puts the sources that a change changes behind what stands so far.
+// Puts references behind what stands so far.
+fn push_references(out: &mut String, references: &[Ref]) -> Result<(), AllocError> {
+    for reference in references {
+        push_word(out, reference.as_str())?;
+    }
+    Ok(())
+}
+
+// Makes changes, and puts the sources that they change behind what stands so far.
+fn push_planned(
+    out: &mut String,
+    alloc: Global,
+    links: &mut Links,
+    changes: &[EmitChange],
+) -> Result<(), AllocError> {
+    let plan = links.plan(alloc, changes)?;
+    let pushed = push_references(out, plan.changed());
+    links.apply(plan);
+    pushed
+}
+
+// Makes a change, and puts the sources that it changes behind what stands so far.
 fn push_changed(
     out: &mut String,
     alloc: Global,
     links: &mut Links,
-    change: EmitChange,
+    emitter: &str,
+    entries: &str,
 ) -> Result<(), Fault> {
-    let mut changes = Vec::new(alloc);
-    changes.push(change)?;
-    let plan = links.plan(alloc, changes.as_slice())?;
-    for reference in plan.changed() {
-        push_word(out, reference.as_str())?;
-    }
-    links.apply(plan);
-    Ok(())
+    let changes = vec![in alloc; change(alloc, emitter, entries)?]?;
+    push_planned(out, alloc, links, changes.as_slice()).map_err(Fault::Memory)
 }
 
 // Puts the targets of the relations of a source behind what stands so far.
-fn push_targets(out: &mut String, alloc: Global, links: &Links, source: &str) -> Result<(), Fault> {
-    let source = parse(alloc, source, None, "default")?;
-    for relation in links.of(&source).iter() {
+fn push_linked(out: &mut String, links: &Links, source: &Ref) -> Result<(), AllocError> {
+    for relation in links.of(source).iter() {
         push_word(out, relation.target.as_str())?;
     }
     Ok(())
 }
 
-/// The sources that each change changes, and the targets of each source that is asked for, as `of api:b`.
-pub fn changed(alloc: Global, case: &Case) -> Result<String, Fault> {
-    let mut links = Links::empty();
-    let mut out = String::new(alloc);
+// Puts the targets of the relations of the source that a text names behind what stands so far.
+fn push_targets(out: &mut String, alloc: Global, links: &Links, source: &str) -> Result<(), Fault> {
+    let source = reference(alloc, source)?;
+    push_linked(out, links, &source).map_err(Fault::Memory)
+}
+
+// Puts what comes of a change, or of a source that is asked for, behind what stands so far.
+fn push_step(out: &mut String, alloc: Global, links: &mut Links, text: &str) -> Result<(), Fault> {
+    match text.split_once(": ") {
+        Some((emitter, entries)) => push_changed(out, alloc, links, emitter, entries),
+        None => push_targets(out, alloc, links, text.strip_prefix("of ").unwrap_or(text)),
+    }
+}
+
+fn push_steps(
+    out: &mut String,
+    alloc: Global,
+    links: &mut Links,
+    case: &Case,
+) -> Result<(), Fault> {
     for step in 0..case.count() {
-        let text = case.step(step);
-        match text.split_once(": ") {
-            Some((emitter, entries)) => {
-                let change = change(alloc, emitter, entries)?;
-                push_changed(&mut out, alloc, &mut links, change)?;
-            }
-            None => {
-                let source = text.strip_prefix("of ").unwrap_or(text);
-                push_targets(&mut out, alloc, &links, source)?;
-            }
-        }
+        push_step(out, alloc, links, case.step(step))?;
         out.push_str(" |")?;
     }
-    Ok(out)
+    Ok(())
+}
+
+/// Puts the sources that each change changes, and the targets of each source that is asked for, as `of api:b`, behind what stands so
+/// far.
+pub fn changed(out: &mut String, alloc: Global, case: &Case) -> Result<(), Fault> {
+    let mut links = Links::empty();
+    push_steps(out, alloc, &mut links, case)
 }

@@ -40,72 +40,126 @@ use std::alloc::{AllocError, Global};
 use std::collections::BTreeMap;
 use std::io::{self, Read, Write};
 
-// What comes of a case.
-fn answer(alloc: Global, case: &Case) -> Result<String, Fault> {
+// Puts what comes of a case behind what stands so far.
+fn answer(out: &mut String, alloc: Global, case: &Case) -> Result<(), Fault> {
     let (subject, question) = case.asked();
     match subject {
-        "tree" => trees::answer(alloc, question, case),
-        "reference" => references::answer(alloc, question, case),
-        "schema" => schema::faults(alloc, case),
-        "kind" => kinds::answer(alloc, question, case),
-        "target" => targets::names(alloc, case),
-        "input" => inputs::answer(alloc, question, case),
-        "result" => results::answer(alloc, question, case),
-        "part" => parts::answer(alloc, question, case),
-        "filter" => filters::answer(alloc, question, case),
-        "query" => queries::answer(alloc, question, case),
-        "line" => commands::command(alloc, case),
-        "marks" => marks::changed(alloc, case),
-        "links" => links::changed(alloc, case),
-        "feed" => feeds::asked(alloc, case),
-        "mirror" => feeds::mirrored(alloc, case),
-        "message" => messages::front(alloc, case),
-        "stream" => streams::answer(alloc, question, case),
-        "keeper" => keepers::committed(alloc, case),
-        "disk" => disks::crashed(alloc, case),
-        "row" => rows::spelling(alloc, case),
-        "store" => stores::opened(alloc, case),
-        "yaml" => yaml::documents(alloc, case),
+        "tree" => trees::answer(out, alloc, question, case),
+        "reference" => references::answer(out, alloc, question, case),
+        "schema" => schema::faults(out, alloc, case),
+        "kind" => kinds::answer(out, alloc, question, case),
+        "target" => targets::names(out, alloc, case),
+        "input" => inputs::answer(out, alloc, question, case),
+        "result" => results::answer(out, alloc, question, case),
+        "part" => parts::answer(out, alloc, question, case),
+        "filter" => filters::answer(out, alloc, question, case),
+        "query" => queries::answer(out, alloc, question, case),
+        "line" => commands::command(out, alloc, case),
+        "marks" => marks::changed(out, alloc, case),
+        "links" => links::changed(out, alloc, case),
+        "feed" => feeds::asked(out, alloc, case),
+        "mirror" => feeds::mirrored(out, alloc, case),
+        "message" => messages::front(out, alloc, case),
+        "stream" => streams::answer(out, alloc, question, case),
+        "keeper" => keepers::committed(out, alloc, case),
+        "disk" => disks::crashed(out, alloc, case),
+        "row" => rows::spelling(out, alloc, case),
+        "store" => stores::opened(out, alloc, case),
+        "yaml" => yaml::documents(out, alloc, case),
         _ => Err(Fault::Question),
     }
 }
 
 // The answer, or the name of the fault.
 fn told(alloc: Global, case: &Case) -> Result<String, AllocError> {
-    match answer(alloc, case) {
-        Ok(text) => Ok(text),
+    let mut out = String::new(alloc);
+    match answer(&mut out, alloc, case) {
+        Ok(()) => Ok(out),
         Err(fault) => format!(in alloc; "{fault}"),
     }
 }
 
+// Puts the line of an answer behind those so far.
+fn push_told(alloc: Global, case: &Case, out: &mut Vec<u8>) -> Result<(), AllocError> {
+    let text = told(alloc, case)?;
+    push_line(out, text.as_str())
+}
+
+// Gives the name of the first field to the text of the second, and puts a line with the name behind those so far.
+fn name(
+    alloc: Global,
+    case: &Case,
+    names: &mut Names,
+    out: &mut Vec<u8>,
+) -> Result<(), AllocError> {
+    push_line(out, case.text(1))?;
+    let name = String::from_str(alloc, case.text(1))?;
+    names.insert(name, case.bytes(2).to_vec(alloc)?)?;
+    Ok(())
+}
+
+// Puts the line of a case behind those so far.
+fn push_case(
+    alloc: Global,
+    case: &Case,
+    names: &mut Names,
+    out: &mut Vec<u8>,
+) -> Result<(), AllocError> {
+    if case.names_text() {
+        name(alloc, case, names, out)
+    } else {
+        push_told(alloc, case, out)
+    }
+}
+
+// Puts a line as it is behind those so far.
+fn push_plain(line: &str, out: &mut Vec<u8>) -> Result<(), AllocError> {
+    out.extend_from_slice(line.as_bytes())?;
+    out.push(b'\n')?;
+    Ok(())
+}
+
+// Puts what comes of a line behind what came of those so far.
+fn push_answer(
+    alloc: Global,
+    line: &str,
+    names: &mut Names,
+    out: &mut Vec<u8>,
+) -> Result<(), AllocError> {
+    if line.is_empty() || line.starts_with('#') {
+        return push_plain(line, out);
+    }
+    let case = Case::read(alloc, names, line)?;
+    push_case(alloc, &case, names, out)
+}
+
 // Puts a line for each line behind those so far.
-fn push_answers(alloc: Global, text: &str, out: &mut Vec<u8>) -> Result<(), AllocError> {
-    let mut names: Names = BTreeMap::new(alloc);
+fn push_answers(
+    alloc: Global,
+    text: &str,
+    names: &mut Names,
+    out: &mut Vec<u8>,
+) -> Result<(), AllocError> {
     for line in text.lines() {
-        if line.is_empty() || line.starts_with('#') {
-            out.extend_from_slice(line.as_bytes())?;
-            out.push(b'\n')?;
-        } else {
-            let case = Case::read(alloc, &names, line)?;
-            match case.named(alloc)? {
-                Some((name, text)) => {
-                    push_line(alloc, out, name.as_str())?;
-                    names.insert(name, text)?;
-                }
-                None => push_line(alloc, out, told(alloc, &case)?.as_str())?,
-            }
-        }
+        push_answer(alloc, line, names, out)?;
     }
     Ok(())
+}
+
+// The lines for the lines of a text.
+fn answers(alloc: Global, text: &str) -> Result<Vec<u8>, AllocError> {
+    let mut names: Names = BTreeMap::new(alloc);
+    let mut out = Vec::new(alloc);
+    push_answers(alloc, text, &mut names, &mut out)?;
+    Ok(out)
 }
 
 fn main(rt: HostRuntime) -> io::Result<()> {
     let alloc = rt.alloc();
     let mut text = String::new(alloc);
     rt.stdin().read_to_string(&mut text)?;
-    let mut out = Vec::new(alloc);
-    match push_answers(alloc, text.as_str(), &mut out) {
-        Ok(()) => rt.stdout().write_all(out.as_slice()),
+    match answers(alloc, text.as_str()) {
+        Ok(out) => rt.stdout().write_all(out.as_slice()),
         Err(_) => println!(rt; "no memory"),
     }
 }

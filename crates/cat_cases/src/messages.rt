@@ -1,23 +1,47 @@
 //! Messages as clients send them.
 use crate::case::Case;
 use crate::fault::Fault;
-use cat_http::message::{Next, next_message};
+use crate::shown::{push_bytes, push_counted, push_texts};
+use cat_http::message::{Message, Next, next_message};
 use std::alloc::{AllocError, Global};
 
-/// What stands at the front of bytes: a message with its method, path, query, body, whether it is the last, and its length; more to
-/// come; or the status and the rule by which it is refused.
-pub fn front(alloc: Global, case: &Case) -> Result<String, Fault> {
+// Puts the method, the path and the query of a message behind what stands so far.
+fn push_front(out: &mut String, message: &Message) -> Result<(), AllocError> {
+    push_texts(
+        out,
+        &[
+            message.method.as_str(),
+            " [",
+            message.path.as_str(),
+            "] [",
+            message.query.as_str(),
+            "] [",
+        ],
+    )
+}
+
+// Puts a message, and how many bytes it takes, behind what stands so far.
+fn push_message(out: &mut String, message: &Message, length: u64) -> Result<(), Fault> {
+    let end = if message.last { "] last " } else { "] open " };
+    push_front(out, message)?;
+    push_bytes(out, message.body.as_slice())?;
+    push_counted(out, end, length).map_err(Fault::Memory)
+}
+
+// Puts what stands at the front of bytes behind what stands so far.
+fn push_next(out: &mut String, next: &Next) -> Result<(), Fault> {
+    match next {
+        Next::Whole(message, length) => push_message(out, message, *length),
+        Next::More => out.push_str("more").map_err(Fault::Memory),
+        Next::Refused(status, rule) => write!(out, "{status} {rule:?}").map_err(Fault::Memory),
+    }
+}
+
+/// Puts what stands at the front of bytes behind what stands so far: a message with its method, path, query, body, whether it is the
+/// last, and its length; more to come; or the status and the rule by which it is refused.
+pub fn front(out: &mut String, alloc: Global, case: &Case) -> Result<(), Fault> {
     match next_message(alloc, case.bytes(1)) {
-        Ok(Next::Whole(message, length)) => {
-            let method = message.method.as_str();
-            let path = message.path.as_str();
-            let query = message.query.as_str();
-            let body = str::from_utf8(message.body.as_slice()).map_err(|_| Fault::Bytes)?;
-            let end = if message.last { "last" } else { "open" };
-            Ok(format!(in alloc; "{method} [{path}] [{query}] [{body}] {end} {length}")?)
-        }
-        Ok(Next::More) => Ok(String::from_str(alloc, "more")?),
-        Ok(Next::Refused(status, rule)) => Ok(format!(in alloc; "{status} {rule:?}")?),
+        Ok(next) => push_next(out, &next),
         Err(_) => Err(Fault::Memory(AllocError)),
     }
 }

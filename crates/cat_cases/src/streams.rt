@@ -3,7 +3,7 @@ ghost use Rattle.std.specs.Prelude.{◌≡◌, ◌+◌, ◌%◌, ◌∷◌, [], 
 
 use crate::case::Case;
 use crate::fault::Fault;
-use crate::shown::{push_word, text_of};
+use crate::shown::{push_bytes, push_counted, push_texts, truth_text};
 use cat_ends::answer_lines;
 use cat_http::message::Message;
 use cat_io::{MemorySink, MemorySource, ReadAnswer, Source, write_all};
@@ -58,94 +58,161 @@ impl cat_wire::Machine for Echo {
 
 // A source of the bytes of the first field that gives as many at a call as the second says; the call of the third fails.
 fn source(alloc: Global, case: &Case) -> Result<MemorySource, AllocError> {
+    let failing = vec![in alloc; case.number(3)]?;
     let bytes = case.bytes(1).to_vec(alloc)?;
-    Ok(MemorySource::new(
-        bytes,
-        case.number(2).max(1),
-        vec![in alloc; case.number(3)]?,
-    ))
+    Ok(MemorySource::new(bytes, case.number(2).max(1), failing))
 }
 
 // A sink that takes as many bytes at a call as the fourth field says; the call of the fifth fails.
 fn sink(alloc: Global, case: &Case) -> Result<MemorySink, AllocError> {
-    Ok(MemorySink::new(case.number(4).max(1), vec![in alloc; case.number(5)]?))
+    let failing = vec![in alloc; case.number(5)]?;
+    Ok(MemorySink::new(case.number(4).max(1), failing))
 }
 
-// What five reads to three bytes each answer, and what they take.
-fn read(alloc: Global, case: &Case) -> Result<String, Fault> {
-    let mut source = source(alloc, case)?;
-    let mut out = String::new(alloc);
-    let mut taken = Vec::new(alloc);
-    for _ in 0..5 {
-        let mut buffer = [0; 3];
-        let answer = source.read(&mut buffer);
-        push_word(&mut out, format!(in alloc; "{answer:?}")?.as_str())?;
-        if let ReadAnswer::Read(count) = answer {
-            for byte in buffer.iter().take(count as usize) {
-                taken.push(*byte)?;
-            }
+// Puts as many bytes of a buffer as a read gave behind those so far.
+fn push_given(taken: &mut Vec<u8>, buffer: &[u8], answer: ReadAnswer) -> Result<(), AllocError> {
+    match answer {
+        ReadAnswer::Read(count) => {
+            let (given, _) = buffer
+                .split_at_checked(count as usize)
+                .unwrap_or((buffer, &[]));
+            taken.extend_from_slice(given)
         }
+        _ => Ok(()),
     }
-    push_word(&mut out, text_of(taken)?.as_str())?;
-    Ok(out)
 }
 
-// What writing `abc` and `de` whole answers, and what is written then.
-fn written(alloc: Global, case: &Case) -> Result<String, Fault> {
+// Puts what a read to three bytes answers behind what stands so far, and what it takes behind what was taken.
+fn push_read(
+    out: &mut String,
+    source: &mut MemorySource,
+    taken: &mut Vec<u8>,
+) -> Result<(), AllocError> {
+    let mut buffer = [0; 3];
+    let answer = source.read(&mut buffer);
+    write!(out, "{answer:?} ")?;
+    push_given(taken, &buffer, answer)
+}
+
+// Puts what five reads answer behind what stands so far, and what they take behind what was taken.
+fn push_reads(
+    out: &mut String,
+    source: &mut MemorySource,
+    taken: &mut Vec<u8>,
+) -> Result<(), AllocError> {
+    for _ in 0..5 {
+        push_read(out, source, taken)?;
+    }
+    Ok(())
+}
+
+// Puts what five reads to three bytes each answer, and what they take, behind what stands so far.
+fn push_taken(out: &mut String, alloc: Global, source: &mut MemorySource) -> Result<(), Fault> {
+    let mut taken = Vec::new(alloc);
+    push_reads(out, source, &mut taken)?;
+    push_bytes(out, taken.as_slice())
+}
+
+fn read(out: &mut String, alloc: Global, case: &Case) -> Result<(), Fault> {
+    let mut source = source(alloc, case)?;
+    push_taken(out, alloc, &mut source)
+}
+
+// Puts what writing `abc` and `de` whole answers, and what is written then, behind what stands so far.
+fn push_writes(out: &mut String, sink: &mut MemorySink) -> Result<(), Fault> {
+    let first = write_all(sink, b"abc").is_ok();
+    let second = write_all(sink, b"de").is_ok();
+    push_texts(out, &[truth_text(first), " ", truth_text(second), " "])?;
+    push_bytes(out, sink.written())
+}
+
+fn written(out: &mut String, alloc: Global, case: &Case) -> Result<(), Fault> {
     let mut sink = sink(alloc, case)?;
-    let first = write_all(&mut sink, b"abc").is_ok();
-    let second = write_all(&mut sink, b"de").is_ok();
-    let text = text_of(sink.written().to_vec(alloc)?)?;
-    Ok(format!(in alloc; "{first} {second} {text}")?)
+    push_writes(out, &mut sink)
 }
 
-// How something ended, and what is written then.
-fn told(alloc: Global, end: &str, sink: &MemorySink) -> Result<String, Fault> {
-    let text = text_of(sink.written().to_vec(alloc)?)?;
-    Ok(format!(in alloc; "{end} {text}")?)
-}
-
-// How a session ends.
-fn in_session(alloc: Global, case: &Case) -> Result<String, Fault> {
+// Puts how a session ends behind what stands so far.
+fn push_session(
+    out: &mut String,
+    alloc: Global,
+    source: &mut MemorySource,
+    sink: &mut MemorySink,
+) -> Result<(), AllocError> {
     let mut machine = Lettering {
         alloc,
         letter: b'a',
     };
-    let mut source = source(alloc, case)?;
-    let mut sink = sink(alloc, case)?;
-    let end = session(alloc, &mut machine, &mut source, &mut sink);
-    told(alloc, format!(in alloc; "{end:?}")?.as_str(), &sink)
+    let end = session(alloc, &mut machine, source, sink);
+    write!(out, "{end:?}")
 }
 
-// The status that a session ends with.
-fn in_command(alloc: Global, case: &Case) -> Result<String, Fault> {
+// Puts the status that a session ends with behind what stands so far.
+fn push_status(
+    out: &mut String,
+    alloc: Global,
+    source: &mut MemorySource,
+    sink: &mut MemorySink,
+) -> Result<(), AllocError> {
     let mut machine = Lettering {
         alloc,
         letter: b'a',
     };
-    let mut source = source(alloc, case)?;
-    let mut sink = sink(alloc, case)?;
-    let status = answer_lines(alloc, &mut machine, &mut source, &mut sink);
-    told(alloc, format!(in alloc; "{}", status.0)?.as_str(), &sink)
+    let status = answer_lines(alloc, &mut machine, source, sink);
+    push_counted(out, "", u64::from(status.0))
 }
 
-// How a connection ends.
-fn in_connection(alloc: Global, case: &Case) -> Result<String, Fault> {
+// Puts how a connection ends behind what stands so far.
+fn push_connection(
+    out: &mut String,
+    alloc: Global,
+    source: &mut MemorySource,
+    sink: &mut MemorySink,
+) -> Result<(), AllocError> {
     let mut machine = Echo { alloc };
-    let mut source = source(alloc, case)?;
-    let mut sink = sink(alloc, case)?;
-    let end = connection(alloc, &mut machine, &mut source, &mut sink);
-    told(alloc, format!(in alloc; "{end:?}")?.as_str(), &sink)
+    let end = connection(alloc, &mut machine, source, sink);
+    write!(out, "{end:?}")
 }
 
-/// What is asked of ends in memory.
-pub fn answer(alloc: Global, question: &str, case: &Case) -> Result<String, Fault> {
+// Puts how what is asked for ends behind what stands so far.
+fn push_end(
+    out: &mut String,
+    alloc: Global,
+    question: &str,
+    source: &mut MemorySource,
+    sink: &mut MemorySink,
+) -> Result<(), Fault> {
     match question {
-        "read" => read(alloc, case),
-        "written" => written(alloc, case),
-        "session" => in_session(alloc, case),
-        "status" => in_command(alloc, case),
-        "connection" => in_connection(alloc, case),
+        "session" => push_session(out, alloc, source, sink).map_err(Fault::Memory),
+        "status" => push_status(out, alloc, source, sink).map_err(Fault::Memory),
+        "connection" => push_connection(out, alloc, source, sink).map_err(Fault::Memory),
         _ => Err(Fault::Question),
+    }
+}
+
+// Puts how what is asked for ends, and what is written then, behind what stands so far.
+fn push_ended(
+    out: &mut String,
+    alloc: Global,
+    question: &str,
+    source: &mut MemorySource,
+    sink: &mut MemorySink,
+) -> Result<(), Fault> {
+    push_end(out, alloc, question, source, sink)?;
+    out.push_str(" ")?;
+    push_bytes(out, sink.written())
+}
+
+fn ended(out: &mut String, alloc: Global, question: &str, case: &Case) -> Result<(), Fault> {
+    let mut source = source(alloc, case)?;
+    let mut sink = sink(alloc, case)?;
+    push_ended(out, alloc, question, &mut source, &mut sink)
+}
+
+/// Puts what is asked of ends in memory behind what stands so far.
+pub fn answer(out: &mut String, alloc: Global, question: &str, case: &Case) -> Result<(), Fault> {
+    match question {
+        "read" => read(out, alloc, case),
+        "written" => written(out, alloc, case),
+        _ => ended(out, alloc, question, case),
     }
 }

@@ -1,7 +1,7 @@
 //! Trees as texts, what is asked of them, and edits.
 use crate::case::Case;
 use crate::fault::Fault;
-use crate::shown::{json, text_of, truth};
+use crate::shown::{push_bytes, push_json, push_number, truth_text};
 use cat_tree::ask::{child, depth, grandchild, same};
 use cat_tree::clone::copy;
 use cat_tree::edit::{with_key, without_key};
@@ -9,42 +9,94 @@ use cat_tree::room::{size, write_within};
 use cat_tree::tree::Tree;
 use std::alloc::Global;
 
-// A tree as JSON, and nothing where there is none.
-fn found(alloc: Global, tree: Option<&Tree>) -> Result<String, Fault> {
+// Puts a tree as JSON behind what stands so far, and nothing where there is none.
+fn push_found(out: &mut String, alloc: Global, tree: Option<&Tree>) -> Result<(), Fault> {
     match tree {
-        Some(tree) => json(alloc, tree),
-        None => Ok(String::new(alloc)),
+        Some(tree) => push_json(out, alloc, tree),
+        None => Ok(()),
     }
 }
 
-// A tree as JSON, written where there is room for as much as it is said to need.
-fn within(alloc: Global, tree: &Tree) -> Result<String, Fault> {
+// Puts how many bytes a tree is said to need, and the bytes that it is written as, behind what stands so far.
+fn push_sized(out: &mut String, length: u64, bytes: &[u8]) -> Result<(), Fault> {
+    push_number(out, length)?;
+    out.push_str(" ")?;
+    push_bytes(out, bytes)
+}
+
+// Puts how many bytes a tree is said to need, and the tree as JSON, written where there is room for as many, behind what stands so
+// far.
+fn push_within(out: &mut String, alloc: Global, tree: &Tree) -> Result<(), Fault> {
     let length = size(tree);
     if length >= 1 << 62 {
         return Err(Fault::Bytes);
     }
-    let mut out = Vec::with_capacity(alloc, length as usize)?;
-    write_within(tree, &mut out);
-    let text = text_of(out)?;
-    Ok(format!(in alloc; "{length} {text}")?)
+    let mut bytes = Vec::with_capacity(alloc, length as usize)?;
+    write_within(tree, &mut bytes);
+    push_sized(out, length, bytes.as_slice())
 }
 
-/// What is asked of the tree of the first field.
-pub fn answer(alloc: Global, question: &str, case: &Case) -> Result<String, Fault> {
-    let tree = case.tree(alloc, 1)?;
+// Puts a copy of a tree behind what stands so far.
+fn push_copy(out: &mut String, alloc: Global, tree: &Tree) -> Result<(), Fault> {
+    let copied = copy(alloc, tree)?;
+    push_json(out, alloc, &copied)
+}
+
+// Puts whether a tree is the same as that of the second field behind what stands so far.
+fn push_same(out: &mut String, alloc: Global, tree: &Tree, case: &Case) -> Result<(), Fault> {
+    let other = case.tree(alloc, 2)?;
+    out.push_str(truth_text(same(tree, &other)))
+        .map_err(Fault::Memory)
+}
+
+// Puts what is asked of a tree that stays as it is behind what stands so far.
+fn push_asked(
+    out: &mut String,
+    alloc: Global,
+    question: &str,
+    tree: &Tree,
+    case: &Case,
+) -> Result<(), Fault> {
     match question {
-        "read" => json(alloc, &tree),
-        "depth" => Ok(format!(in alloc; "{}", depth(&tree))?),
-        "child" => found(alloc, child(&tree, case.text(2))),
-        "grandchild" => found(alloc, grandchild(&tree, case.text(2), case.text(3))),
-        "same" => truth(alloc, same(&tree, &case.tree(alloc, 2)?)),
-        "copy" => json(alloc, &copy(alloc, &tree)?),
-        "within" => within(alloc, &tree),
-        "with" => {
-            let value = case.tree(alloc, 3)?;
-            json(alloc, &with_key(alloc, tree, case.text(2), value)?)
-        }
-        "without" => json(alloc, &without_key(tree, case.text(2))),
+        "read" => push_json(out, alloc, tree),
+        "depth" => push_number(out, depth(tree)).map_err(Fault::Memory),
+        "child" => push_found(out, alloc, child(tree, case.text(2))),
+        "grandchild" => push_found(out, alloc, grandchild(tree, case.text(2), case.text(3))),
+        "same" => push_same(out, alloc, tree, case),
+        "copy" => push_copy(out, alloc, tree),
+        "within" => push_within(out, alloc, tree),
         _ => Err(Fault::Question),
+    }
+}
+
+// Puts what is asked of the tree of the first field behind what stands so far.
+fn asked(out: &mut String, alloc: Global, question: &str, case: &Case) -> Result<(), Fault> {
+    let tree = case.tree(alloc, 1)?;
+    push_asked(out, alloc, question, &tree, case)
+}
+
+// The tree of the first field, with that of the third under the key of the second.
+fn edited(alloc: Global, case: &Case) -> Result<Tree, Fault> {
+    let tree = case.tree(alloc, 1)?;
+    let value = case.tree(alloc, 3)?;
+    Ok(with_key(alloc, tree, case.text(2), value)?)
+}
+
+fn with(out: &mut String, alloc: Global, case: &Case) -> Result<(), Fault> {
+    let tree = edited(alloc, case)?;
+    push_json(out, alloc, &tree)
+}
+
+fn without(out: &mut String, alloc: Global, case: &Case) -> Result<(), Fault> {
+    let tree = without_key(case.tree(alloc, 1)?, case.text(2));
+    push_json(out, alloc, &tree)
+}
+
+/// Puts what is asked of the tree of the first field behind what stands so far.
+pub fn answer(out: &mut String, alloc: Global, question: &str, case: &Case) -> Result<(), Fault> {
+    match question {
+        "with" => with(out, alloc, case),
+        "without" => without(out, alloc, case),
+        _ => asked(out, alloc, question, case),
     }
 }

@@ -1,13 +1,14 @@
 //! Texts in block YAML.
 use crate::case::Case;
 use crate::fault::Fault;
-use crate::shown::json;
+use crate::shown::push_json;
 use cat_tree::tree::{Tree, Trees};
 use cat_yaml::read::read_yaml;
 use std::alloc::Global;
 
-/// The documents of a text as a list in JSON.
-pub fn documents(alloc: Global, case: &Case) -> Result<String, Fault> {
+/// Puts the documents of a text as a list in JSON behind what stands so far.
+pub fn documents(out: &mut String, alloc: Global, case: &Case) -> Result<(), Fault> {
     let documents = read_yaml(alloc, case.bytes(1))?;
-    json(alloc, &Tree::List(Trees::from_vec(documents)))
+    let tree = Tree::List(Trees::from_vec(documents));
+    push_json(out, alloc, &tree)
 }

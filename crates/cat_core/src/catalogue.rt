@@ -43,7 +43,7 @@ use cat_model::types::{
     StitchOrder, Stop,
 };
 use cat_ref::reference::Ref;
-use cat_search::index::Index;
+use cat_search::index::{Index, list_pending};
 use cat_settle::settle::settled;
 use cat_table::listing::{Copied, Listing};
 use cat_table::map::Map;
@@ -114,6 +114,14 @@ impl<L: Layers> Saved<L> {
         ensures { option_map (λ r. r.now) result ≡ ref_at self.now number }
     {
         with_number(&self.state, number)
+    }
+
+    /// The records of what was saved. All else is let go.
+    pub fn into_records(self) -> Records
+        ensures { result ≡ self.records }
+    {
+        let Saved { state, .. } = self;
+        state.records
     }
 }
 
@@ -258,21 +266,40 @@ impl<L: Layers> Catalogue<L> {
     pub fn saved(&self, alloc: Global) -> Result<Saved<L>, AllocError>
         ensures { IfOk result (λ saved. saved ≡ self.now.state) }
     {
+        let records = self.ledger.state.records.duplicate(alloc)?;
+        self.saved_with(records)
+    }
+
+    /// What the catalogue holds, over a copy of its records; all else is shared. The only error is want of memory.
+    pub fn saved_with(&self, records: Records) -> Result<Saved<L>, AllocError>
+        requires { records ≡ self.now.state.records }
+        ensures { IfOk result (λ saved. saved ≡ self.now.state) }
+    {
+        let links = self.links.share()?;
+        let state = self.ledger.state.with_records(records)?;
         Ok(Saved {
-            state: self.ledger.state.duplicate(alloc)?,
-            links: self.links.share()?,
+            state,
+            links,
             layers: PhantomData,
         })
     }
 
+    /// Exchanges what the catalogue holds with what was saved. No memory is taken.
+    pub fn exchange(&mut self, saved: &mut Saved<L>)
+        ensures state { self.new.state ≡ saved.old }
+        ensures saved { saved.new ≡ self.old.state }
+        ensures settings { self.new.settings ≡ self.old.settings }
+    {
+        mem::swap(&mut self.ledger.state, &mut saved.state);
+        mem::swap(&mut self.links, &mut saved.links);
+    }
+
     /// Puts the catalogue back to what it held when it was saved. No memory is taken.
-    pub fn put_back(&mut self, saved: Saved<L>)
+    pub fn put_back(&mut self, mut saved: Saved<L>)
         ensures state { self.new.state ≡ saved }
         ensures settings { self.new.settings ≡ self.old.settings }
     {
-        let Saved { state, links, .. } = saved;
-        self.ledger.state = state;
-        self.links = links;
+        self.exchange(&mut saved);
     }
 
     /// A provider's inputs change, and what follows from that. A serial that is the last one again changes nothing. Neither
@@ -584,7 +611,7 @@ impl<L: Layers> Catalogue<L> {
     pub fn list_documents(&mut self, alloc: Global, most: usize)
         ensures { self.new ≡ self.old }
     {
-        let _listed = self.ledger.state.documents.list_pending(alloc, most);
+        let _listed = list_pending(alloc, &mut self.ledger.state.documents, most);
     }
 
     /// The document of a reference. Where the catalogue is quiet the documents are those computed afresh from its inputs.

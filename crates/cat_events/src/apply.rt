@@ -6,11 +6,11 @@ ghost use Rattle.cat_events.specs.Planned.{given_by, planned, with_marks, with_o
 use crate::plan::{Inputs, Plan};
 use cat_claims::types::Claimed;
 use cat_frame::amended::Amendment;
+use cat_index::index::Index;
 use cat_links::links::Links;
 use cat_model::records::ready;
 use cat_model::types::{Orphan, Record, State};
 use cat_ref::reference::Ref;
-use cat_search::index::Index;
 use cat_table::listing::Listing;
 use cat_table::map::Map;
 use cat_table::tree::MOST;

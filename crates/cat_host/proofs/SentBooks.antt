@@ -13,6 +13,8 @@ use Rattle.cat_io.specs.declared.clock.Clock as Clock
 use Rattle.cat_core.specs.contracts.ledger.Ledger as Ledger
 use Rattle.cat_core.specs.contracts.catalogue.Catalogue as Catalogue
 use Rattle.cat_core.specs.contracts.catalogue.Catalogue.TheInside as within
+use Rattle.cat_core.specs.contracts.catalogue.Saved as Saved
+use Rattle.cat_core.specs.contracts.catalogue.Saved.TheInside as saved
 use Rattle.cat_desk.specs.contracts.command.Reply as Reply
 use Rattle.cat_desk.specs.contracts.timed.Timed as Timed
 use Rattle.cat_fed.specs.contracts.fed.Fed as Fed
@@ -95,6 +97,9 @@ ledger_send = declared_send Ledger.the_type (search known depth 60, (state_send,
 module _ (L : RattleType) (layers : Layers.Ghosts L.Denot) (l : IsSend L) where
   pub catalogue_send : IsSend (Catalogue.the_row L layers)
   catalogue_send = view_send _ _ _ _ _ (declared_send (within.the_type L layers) (search (l, known) depth 60, (ledger_send, (search (links_send, known) depth 20, tt))))
+
+  pub saved_send : IsSend (Saved.the_row L layers)
+  saved_send = view_send _ _ _ _ _ (declared_send (saved.the_type L layers) (search (state_send, known) depth 20, (search (links_send, known) depth 20, (search (l, known) depth 20, tt))))
 
   module _ (C : RattleType) (c : IsSend C) where
     timed_send : IsSend (Timed.the_row L C layers)

@@ -13,7 +13,7 @@ use Rattle.std.specs.contracts.alloc.Global as Global
 use Rattle.std.specs.contracts.impls.GlobalAllocator.TheImpl.{ghosts}
 use Rattle.std.specs.contracts.boxed.Box as Box
 use Rattle.std.specs.contracts.option.Option as Option
-use Rattle.cat_table.specs.declared.key.Key as Key
+use Rattle.cat_key.specs.declared.key.Key as Key
 use Rattle.cat_owned.specs.contracts.boxed.Boxed as Boxed
 use Rattle.cat_owned.specs.contracts.boxed.Boxed.TheKnot as Knot
 use Rattle.cat_owned.specs.declared.boxed.Boxed.TheDeep.{the_members, member-Boxed}

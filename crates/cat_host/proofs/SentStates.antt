@@ -8,7 +8,7 @@ use denote.Struct.Tuple.{Tuple, tuple_type}
 use Rattle.std.proofs.Crossing.{crosses, Arc-send, Arc-sync}
 use Rattle.cat_tree.specs.contracts.text.Text as Text
 use Rattle.cat_tree.specs.contracts.tree.Tree as Tree
-use Rattle.cat_table.specs.declared.key.Key as Key
+use Rattle.cat_key.specs.declared.key.Key as Key
 use Rattle.cat_table.specs.contracts.map.Map as Map
 use Rattle.cat_table.specs.contracts.map.Map.TheInside as within
 use Rattle.cat_table.specs.contracts.tree.Tree as Shared
@@ -18,8 +18,8 @@ use Rattle.cat_types.specs.contracts.node.Node as Node
 use Rattle.cat_types.specs.contracts.node.Node.TheInside as inside
 use Rattle.cat_types.specs.contracts.work.Output as Output
 use Rattle.cat_types.specs.contracts.relation.Relation as Relation
-use Rattle.cat_search.specs.contracts.index.Index as Index
-use Rattle.cat_search.specs.contracts.index.Index.TheInside as searched
+use Rattle.cat_index.specs.contracts.index.Index as Index
+use Rattle.cat_index.specs.contracts.index.Index.TheInside as searched
 use Rattle.cat_items.specs.contracts.items.OfferedItems as OfferedItems
 use Rattle.cat_items.specs.contracts.items.OfferedItems.TheInside as counted
 use Rattle.cat_links.specs.contracts.links.Links as Links

@@ -10,7 +10,7 @@ use Rattle.cat_rows.specs.contracts.row.StoredOutput as StoredOutput
 use Rattle.cat_rows.specs.contracts.row.StoredRow as StoredRow
 use Rattle.cat_store.specs.contracts.store.Store as Store
 use Rattle.cat_kept_desk.specs.contracts.desk.KeptDesk as KeptDesk
-use Rattle.cat_host.proofs.SentBooks.{catalogue_send}
+use Rattle.cat_host.proofs.SentBooks.{catalogue_send, saved_send}
 use Rattle.cat_host.proofs.SentStates.{known, Map-send, Map-sync}
 
 -- ---- rows
@@ -99,5 +99,5 @@ module _ (K : RattleType) (keeper : Keeper.Ghosts K.Denot) (k : IsSend K) where
   pub kept_desk_send : (L C : RattleType) (layers : Layers.Ghosts L.Denot) (clock : Clock.Ghosts C.Denot) → IsSend L → IsSend C → IsSend (KeptDesk.the_row L C K layers clock keeper)
   kept_desk_send L C layers clock l c = declared_send (KeptDesk.the_type L C K layers clock keeper) (
     catalogue_send L layers l,
-    (search (c, known) depth 20, (search (Map-send, Map-sync, known) depth 60, (store_send, (search known depth 20, tt)))),
+    (search (c, known) depth 20, (search (Map-send, Map-sync, known) depth 60, (store_send, (search known depth 20, (search (saved_send, known) depth 20, tt))))),
   )

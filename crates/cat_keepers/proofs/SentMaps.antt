@@ -14,7 +14,7 @@ use Rattle.std.proofs.Crossing.{Arc-send, Arc-sync}
 use Rattle.std.specs.contracts.alloc.Global as Global
 use Rattle.std.specs.contracts.impls.GlobalAllocator.TheImpl.{ghosts}
 use Rattle.std.specs.contracts.sync.Arc as Arc
-use Rattle.cat_table.specs.declared.key.Key as Key
+use Rattle.cat_key.specs.declared.key.Key as Key
 use Rattle.cat_table.specs.contracts.map.Map as Map
 use Rattle.cat_table.specs.contracts.map.Map.TheInside as within
 use Rattle.cat_table.specs.contracts.tree.Tree as Tree

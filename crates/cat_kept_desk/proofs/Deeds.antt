@@ -10,7 +10,7 @@ use Rattle.cat_desk.specs.Deed.Deed.{Mutate, ShelfPut, ShelfDrop, Refresh, Forge
 use Rattle.cat_loop.specs.Word.{Word, plain, memory, cut, unkept}
 use Rattle.cat_model.specs.Catalogue.{Ref, Rules}
 use Rattle.cat_model.specs.Sound.{its_number, number_in}
-use Rattle.cat_model.specs.Step.{forget_at, forgotten, ref_at, source_at}
+use Rattle.cat_model.specs.Step.{forget_at, ref_at, source_at}
 use Rattle.cat_model.specs.Step.Event.{Mutate as Mutated, ShelfDrop as DroppedFromShelf, Forget as Forgotten, ForgetNumber as NumberForgotten}
 use Rattle.cat_model.specs.declared.types.Orphan.{Orphan}
 use Rattle.cat_model.specs.declared.types.OrphanRule.{OrphanRule}

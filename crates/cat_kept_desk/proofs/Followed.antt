@@ -1,5 +1,5 @@
 -- What a store follows, from what it followed before.
-use Rattle.std.proofs.Common.{◌≡◌, sym, ◌∙◌}
+use Rattle.std.proofs.Common.{◌≡◌, ◌∙◌}
 use Rattle.std.proofs.Math.Logic.{∥∥₁_map}
 use Rattle.std.specs.declared.option.Option.{Option}
 use Rattle.cat_keeper.specs.Answers.{Are}

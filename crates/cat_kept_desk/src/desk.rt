@@ -12,6 +12,7 @@ ghost use Rattle.cat_keeper.specs.Answers.{Are};
 ghost use Rattle.cat_keeper.specs.declared.keeper.Committed.TheVariants.{Kept};
 ghost use Rattle.cat_kept_desk.specs.Followed.{IsFollowed};
 ghost use Rattle.cat_kept_desk.specs.Reached.{IsReached};
+ghost use Rattle.cat_spare.specs.Spare.{IsSpare};
 ghost use Rattle.cat_model.specs.Sound.{AreOffers, AreSmall};
 ghost use Rattle.cat_renewed.specs.Renewed.{IsBeyond};
 ghost use Rattle.cat_renewed.specs.declared.reached.Reached.{Reached};
@@ -35,11 +36,13 @@ use cat_io::Clock;
 use cat_keeper::keeper::{Committed, Keeper};
 use cat_model::types::State;
 use cat_query::ask::Ask;
+use cat_spare::spare::{bring_up, brought_up, taken};
 use cat_store::store::Store;
 use std::alloc::Global;
 
 /// A catalogue with a clock and a feed, and the store that follows it. Its type keeps that a keeper which tells its tables holds those of
-/// the catalogue's state, and that it has counted at least as many faults as there were commands that weren't kept.
+/// the catalogue's state, that it has counted at least as many faults as there were commands that weren't kept, and that a spare copy is what the
+/// catalogue holds.
 #[derive(Drop)]
 pub struct KeptDesk<L: Layers, C: Clock, K: Keeper> {
     catalogue: Catalogue<L>,
@@ -48,8 +51,11 @@ pub struct KeptDesk<L: Layers, C: Clock, K: Keeper> {
     store: Store<K>,
     // how many commands weren't kept
     refusals: u64,
+    // a second copy of what the catalogue holds, to which it is put back where the next command isn't kept
+    spare: Option<Saved<L>>,
     pub ghost counted: { refusals ≤ K.faults store.keeper },
     pub ghost followed: { ∥ IsFollowed (K.tables store.place store.keeper) store.orphans store.rows catalogue.settings.orphans catalogue.state ∥₁ },
+    pub ghost spared: { ∥ IsSpare spare catalogue.state ∥₁ },
 }
 
 impl<L: Layers, C: Clock, K: Keeper> KeptDesk<L, C, K> {
@@ -74,6 +80,7 @@ impl<L: Layers, C: Clock, K: Keeper> KeptDesk<L, C, K> {
             feed: Feed::new(alloc, epoch),
             store,
             refusals: 0,
+            spare: None,
         }
     }
 
@@ -129,21 +136,26 @@ fn leaves_rows<L: Layers>(
     }
 }
 
-// Does what a command says that leaves the stored rows as they are.
+// Does what a command says that leaves the stored rows as they are, to the spare copy too.
 fn pass<L: Layers>(
     alloc: Global,
     catalogue: &mut Catalogue<L>,
+    spare: &mut Option<Saved<L>>,
     command: &Command<Done<'_, L>, Stitched<'_, L>>,
     now: u64,
 ) -> Reply
     requires now { now < 2 ^ 53 }
     requires leaves { leaves_rows (deed_of command.now) catalogue.old.state ≡ true }
+    requires spared { IsSpare spare.old catalogue.old.state }
     ensures acts { Acts L.rules now (deed_of command.now) catalogue.old catalogue.new result }
     ensures never { result ≢ Reply.Refused CoreFault.Keeper }
     ensures rows { stored catalogue.old.settings.orphans catalogue.new.state ≡ stored catalogue.old.settings.orphans catalogue.old.state }
+    ensures spared { IsSpare spare.new catalogue.new.state }
 {
     let _state = catalogue.view();
-    act(alloc, catalogue, command, now)
+    let reply = act(alloc, catalogue, command, now);
+    bring_up(alloc, catalogue, spare, command, now, &reply);
+    reply
 }
 
 // Has the store follow a command, given what the catalogue held before it and holds after it.
@@ -177,6 +189,7 @@ fn keep<L: Layers, K: Keeper>(
 fn follow<L: Layers, K: Keeper>(
     alloc: Global,
     catalogue: &mut Catalogue<L>,
+    spare: &mut Option<Saved<L>>,
     store: &mut Store<K>,
     refusals: &mut u64,
     command: &Command<Done<'_, L>, Stitched<'_, L>>,
@@ -185,20 +198,25 @@ fn follow<L: Layers, K: Keeper>(
     requires now { now < 2 ^ 53 }
     requires changes { leaves_rows (deed_of command.now) catalogue.old.state ≡ false }
     requires followed { ∥ IsFollowed (K.tables store.old.place store.old.keeper) store.old.orphans store.old.rows catalogue.old.settings.orphans catalogue.old.state ∥₁ }
+    requires spared { IsSpare spare.old catalogue.old.state }
     ensures acts { KeptActs L.rules now (deed_of command.now) catalogue.old catalogue.new refusals.old refusals.new result }
     ensures counts { refusals.old ≤ K.faults store.old.keeper → refusals.new ≤ K.faults store.new.keeper }
     ensures cause { result ≡ Reply.Refused CoreFault.Keeper → Rose (K.faults store.old.keeper) (K.faults store.new.keeper) }
     ensures followed { ∥ IsFollowed (K.tables store.new.place store.new.keeper) store.new.orphans store.new.rows catalogue.new.settings.orphans catalogue.new.state ∥₁ }
     ensures place { store.new.place ≡ store.old.place }
     ensures later { K.faults store.old.keeper ≤ K.faults store.new.keeper }
+    ensures spared { IsSpare spare.new catalogue.new.state }
 {
-    let Ok(saved) = catalogue.saved(alloc) else {
+    let Ok(saved) = taken(alloc, catalogue, spare) else {
         return Reply::Refused(CoreFault::NoMemory);
     };
     let _before = saved.state();
     let reply = act(alloc, catalogue, command, now);
     match keep(alloc, store, command, &saved, catalogue.sound_state()) {
-        Committed::Kept => reply,
+        Committed::Kept => {
+            *spare = brought_up(alloc, catalogue, saved, command, now, &reply);
+            reply
+        }
         Committed::Failed => {
             catalogue.put_back(saved);
             *refusals = refusals.saturating_add(1);
@@ -230,11 +248,15 @@ impl<L: Layers, C: Clock, K: Keeper> KeptDesk<L, C, K> {
     {
         let now = self.clock.now();
         if leaves_rows(&self.catalogue, command) {
-            return (now, pass(alloc, &mut self.catalogue, command, now));
+            return (
+                now,
+                pass(alloc, &mut self.catalogue, &mut self.spare, command, now),
+            );
         }
         let reply = follow(
             alloc,
             &mut self.catalogue,
+            &mut self.spare,
             &mut self.store,
             &mut self.refusals,
             command,

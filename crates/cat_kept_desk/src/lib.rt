@@ -4,8 +4,13 @@
 //! answered `CoreFault::Keeper`, it is counted, and the catalogue is as before it. A settle is one change, for which all rows are made and compared; for
 //! any other command only those are that it reached (cat_reached). What leaves the stored rows as they are asks nothing of the keeper.
 //!
+//! The catalogue is put back to a copy from before the command. The desk keeps a spare one, to which each command is done that was done to the
+//! catalogue (cat_spare), so that records aren't copied for each. There is none at first, and after a settle, a mutation of more than 64 items, and a command that
+//! wasn't kept or lacked memory: then the next command that may change the stored rows makes one.
+//!
 //! It stands on cat_desk for what a command does, on cat_fed for the feed, and on cat_store for the store. It carries the promise that between two
-//! commands a keeper that tells its tables holds those of the catalogue's state, and that the keeper's fault is answered only where it counted one.
+//! commands a keeper that tells its tables holds those of the catalogue's state, that the keeper's fault is answered only where it counted one, and
+//! that a spare copy is what the catalogue holds.
 #![tactic(auto)]
 
 pub mod desk;

@@ -3,10 +3,10 @@ ghost use Rattle.std.specs.Prelude.{◌≡◌, IfOk};
 
 use crate::records::Records;
 use crate::rows::IndexedRows;
+use cat_index::index::Index;
 use cat_items::items::OfferedItems;
 use cat_marks::marks::Marks;
 use cat_ref::reference::Ref;
-use cat_search::index::Index;
 use cat_table::listing::{Copied, Listing};
 use cat_table::map::Map;
 use cat_tree::text::Text;
@@ -321,13 +321,13 @@ impl State {
         let documents = self.documents.share()?;
         Ok((orphans, marks, documents))
     }
-}
 
-impl Copied for State {
-    fn duplicate(&self, alloc: Global) -> Result<State, AllocError> {
+    /// The state with other records. All else is shared. Takes no memory.
+    pub fn with_records(&self, records: Records) -> Result<State, AllocError>
+        ensures { IfOk result (λ made. made ≡ record self.now { records = records }) }
+    {
         let (providers, shelf, rows, holders) = self.share_inputs()?;
         let (orphans, marks, documents) = self.share_outcomes()?;
-        let records = self.records.duplicate(alloc)?;
         Ok(State {
             providers,
             shelf,
@@ -342,6 +342,13 @@ impl Copied for State {
             token: self.token,
             ticket: self.ticket,
         })
+    }
+}
+
+impl Copied for State {
+    fn duplicate(&self, alloc: Global) -> Result<State, AllocError> {
+        let records = self.records.duplicate(alloc)?;
+        self.with_records(records)
     }
 }
 

@@ -12,7 +12,7 @@ use crate::query::Query;
 use crate::rank::{First, first_of};
 use cat_ref::reference::Ref;
 use cat_search::condition::Filter;
-use cat_search::index::{Index, Lists};
+use cat_search::index::{self, Index, Lists};
 use cat_search::matches::is_accepted;
 use cat_table::map::Map;
 use cat_tree::tree::Tree;
@@ -121,7 +121,7 @@ impl Documents for Index {
         alloc: Global,
         filters: &[Filter],
     ) -> Result<Vec<(&'a Ref, &'a Tree)>, AllocError> {
-        let entries = Index::matching(self, alloc, filters)?;
+        let entries = index::matching(alloc, self, filters)?;
         let mut found = Vec::with_capacity(alloc, entries.len())?;
         for entry in entries.as_slice() {
             found.push((&entry.0, entry.1.tree()))?;
@@ -150,7 +150,7 @@ fn count(alloc: Global, docs: &Index, filters: &[Filter]) -> Result<usize, Alloc
     if filters.is_empty() {
         Ok(docs.len())
     } else {
-        docs.count(alloc, filters)
+        index::count(alloc, docs, filters)
     }
 }
 

@@ -8,6 +8,7 @@ ghost use Rattle.std.specs.Cmp.Rules.{comparing};
 ghost use Rattle.std.specs.Ordering.{nat_cmp, as_partial_cmp};
 ghost use Rattle.std.specs.Arc.{arc_value};
 ghost use Rattle.std.specs.Option.{option_copied};
+ghost use Rattle.cat_key.specs.Texts.{text_antisymmetric, text_cmp, text_total};
 ghost use Rattle.cat_tree.specs.View.{data_of};
 ghost use Rattle.cat_ref.specs.Pieces.{pieces_of};
 ghost use Rattle.cat_ref.specs.Reading.{reading};
@@ -16,6 +17,8 @@ ghost use Rattle.cat_ref.specs.Reference.{IsReference, is_map, text_in, text_at,
 use crate::fault::RefFault;
 use crate::names::{is_kind, is_name, is_namespace};
 use crate::split::{RefParts, split};
+use cat_key::copied::Copied;
+use cat_key::key::Key;
 use cat_tree::ask::child;
 use cat_tree::text::Text;
 use cat_tree::tree::Tree;
@@ -81,6 +84,24 @@ impl Ref {
             → parsed self.now kind namespace ≡ Ok self.now }
     {
         let _text = &self.text;
+    }
+}
+
+impl Key for Ref {
+    ghost order = { text_cmp };
+
+    ghost total = { text_total };
+
+    ghost apart = { text_antisymmetric };
+
+    fn compare(&self, other: &Ref) -> Ordering {
+        self.as_str().cmp(other.as_str())
+    }
+}
+
+impl Copied for Ref {
+    fn duplicate(&self, alloc: Global) -> Result<Ref, AllocError> {
+        self.copy(alloc)
     }
 }
 

@@ -14,7 +14,7 @@ use Rattle.cat_search.specs.Filter.{holds, key_holds, accepts, is_match, is_acce
 use Rattle.cat_search.specs.Terms.{term, condition_term, terms, document_terms}
 use Rattle.cat_search.specs.Index.{Set, Lists, has, term_cmp, set_at, has_term, AreLists, AgreeBeyond, union, in_all, common, at_key, by_key, accepted, all_accepted, is_accepted_at, corrected_at, corrected, found, has_free, accepts_all}
 use Rattle.cat_search.specs.declared.condition.Condition.{Condition}
-use Rattle.cat_search.proofs.Listed.{same, text_is, has-put, has-without, either_false, longer}
+use Rattle.cat_index.proofs.Waiting.{same, text_is, has-put, has-without, either_false, longer}
 
 pub to_T : (b : Bool) → b ≡ true → T b
 to_T true h = tt

@@ -1,22 +1,22 @@
 -- Which references stand under a term after a change, and that a change of a document keeps the lists those of the documents.
 use Rattle.std.proofs.Math.Seq.{drop-cons}
 use Rattle.std.proofs.lemmas.List.{take_all}
-use Rattle.std.proofs.Common.{◌≡◌, ◌≢◌, ℕ, zero, suc, ◌==◌, ◌<◌, ◌≤◌, ◌+◌, ◌-◌, length, take, drop, get_or, append_assoc, arith, Bool, true, false, cond, not, ◌&&◌, ◌||◌, List, [], ◌∷◌, ◌++◌, map, Option, Some, None, Ordering, refl, sym, ap, subst, ◌∙◌, true≢false}
-use Rattle.std.specs.Prelude.{is_some, option_map, unwrap_or}
+use Rattle.std.proofs.Common.{◌≡◌, ◌≢◌, ℕ, zero, suc, ◌<◌, ◌≤◌, ◌+◌, ◌-◌, length, take, drop, get_or, append_assoc, arith, Bool, true, false, cond, not, ◌&&◌, ◌||◌, List, [], ◌∷◌, ◌++◌, map, Option, Some, None, Ordering, refl, sym, ap, subst, ◌∙◌, true≢false}
+use Rattle.std.specs.Prelude.{option_map, unwrap_or}
 use Rattle.std.specs.List.{list_all, list_any}
 use Rattle.std.specs.List.Sorted.{IsPermutation}
 use Rattle.std.proofs.lemmas.List.Folds.{list_any-append}
 use Rattle.std.proofs.lemmas.List.Sorted.{list_any-IsPermutation}
 use Rattle.std.specs.Ordering.{eq_by_cmp}
-use Rattle.std.specs.FinMap.Entries.{find-put, find-where_key}
+use Rattle.std.specs.FinMap.Entries.{find-put}
 use Rattle.std.specs.Cmp.{IsTotalOrder}
 use Rattle.std.specs.FinMap.{IsAntisymmetric}
-use Rattle.std.proofs.lemmas.Bool.Decides.{nat_tests}
 use Rattle.cat_tree.specs.Data.{Data}
 use Rattle.cat_table.specs.Pairs.{pair_total, pair_antisymmetric}
 use Rattle.cat_table.specs.Rows.{without}
 use Rattle.cat_table.specs.Table.{Map, find, get, keys, put, text_cmp, text_total, text_antisymmetric}
 use Rattle.cat_table.proofs.Tables.{same_is}
+use Rattle.cat_index.proofs.Waiting.{find-without, got, has-put, has-without, longer, same, text_is}
 use Rattle.cat_search.specs.Index.{Set, Lists, Posting, has, term_cmp, set_at, terms_at, has_term, has_posting, postings, AreLists, AreEntered, AreStruck, AgreeBeyond, with_document, with_documents, with_references, without_references, with_set, entered, struck}
 use Rattle.cat_search.specs.Terms.{Term, document_terms}
 
@@ -26,53 +26,8 @@ term_total = pair_total text_total text_total
 pub term_antisymmetric : IsAntisymmetric term_cmp
 term_antisymmetric = pair_antisymmetric text_antisymmetric text_antisymmetric
 
--- the texts are the same
-abbrev pub same : List ℕ → List ℕ → Bool
-same = eq_by_cmp text_cmp
-
-pub text_is : (x y : List ℕ) → same x y ≡ true → x ≡ y
-text_is = same_is text_total text_antisymmetric
-
 pub term_is : (x y : Term) → eq_by_cmp term_cmp x y ≡ true → x ≡ y
 term_is = same_is term_total term_antisymmetric
-
--- ---- what `find` gives without a key
-
-module _ {K : Type 0} {R : K → K → Ordering} (o : IsTotalOrder R) (s : IsAntisymmetric R) where
-  turned : (x y : K) → eq_by_cmp R x y ≡ true → eq_by_cmp R x y ≡ eq_by_cmp R y x
-  turned x y e = λ i. eq_by_cmp R (same_is o s x y e i) (sym (same_is o s x y e) i)
-
-  pub eq-sym : (x y : K) → eq_by_cmp R x y ≡ eq_by_cmp R y x
-  eq-sym x y = go (eq_by_cmp R x y) refl (eq_by_cmp R y x) refl
-    where
-      go : (a : Bool) → eq_by_cmp R x y ≡ a → (b : Bool) → eq_by_cmp R y x ≡ b → eq_by_cmp R x y ≡ eq_by_cmp R y x
-      go true e b f = turned x y e
-      go false e true f = sym (turned y x f)
-      go false e false f = e ∙ sym f
-
-  pub find-without : {X : Type 0} (q k : K) (m : List (K × X)) → find R q (without R k m) ≡ cond (not (eq_by_cmp R q k)) (find R q m) None
-  find-without q k m =
-      find-where_key R (λ x. not (eq_by_cmp R k x)) q (λ x e. ap (λ y. not (eq_by_cmp R k y)) (sym (s q x e))) m
-      ∙ ap (λ b. cond (not b) (find R q m) None) (eq-sym k q)
-
-pub longer : (n : ℕ) → (suc n == 0) ≡ false
-longer n = grind (arith, nat_tests)
-
--- ---- sets
-
-some_either : {X : Type 0} (b : Bool) (x : X) (y : Option X) → is_some (cond b (Some x) y) ≡ (b || is_some y)
-some_either true x y = refl
-some_either false x y = refl
-
-some_unless : {X : Type 0} (b : Bool) (y : Option X) → is_some (cond (not b) y None) ≡ (not b && is_some y)
-some_unless true y = refl
-some_unless false y = refl
-
-pub has-put : (r : List ℕ) (u : Unit {0}) (s : Set) (q : List ℕ) → has (put text_cmp r u s) q ≡ (same q r || has s q)
-has-put r u s q = ap is_some (find-put text_cmp text_total q r u s) ∙ some_either (same q r) u (get s q)
-
-pub has-without : (r : List ℕ) (s : Set) (q : List ℕ) → has (without text_cmp r s) q ≡ (not (same q r) && has s q)
-has-without r s q = ap is_some (find-without text_total text_antisymmetric q r s) ∙ some_unless (same q r) (get s q)
 
 -- ---- sets under terms
 
@@ -281,16 +236,7 @@ has-postings docs (r ∷ rs) u q =
     here true e = ap (λ x. same q r && has_term u (terms_at docs x)) (sym (text_is q r e))
     here false e = (λ i. e i && has_term u (terms_at docs r)) ∙ (λ i. sym e i && has_term u (terms_at docs q))
 
--- ---- changes of a document
-
-none_at : (b : Bool) (y : Option Data) → cond (not b) y None ≡ cond b None y
-none_at true y = refl
-none_at false y = refl
-
--- what a reference has after a change of a document
-got : (r : List ℕ) (x : Option Data) (docs : Map Data) (q : List ℕ) → get (with_document r x docs) q ≡ cond (same q r) x (get docs q)
-got r None docs q = find-without text_total text_antisymmetric q r docs ∙ none_at (same q r) (get docs q)
-got r (Some d) docs q = find-put text_cmp text_total q r d docs
+-- ---- changes of documents
 
 one_either : {X : Type 0} (b : Bool) (x : X) → cond b x x ≡ x
 one_either true x = refl
@@ -335,26 +281,6 @@ lists_keep docs listed rs former present old between new f p are strikes enters 
 
 -- ---- the documents that wait
 
-pub either_false : (a b : Bool) → (a || b) ≡ false → (a ≡ false) × (b ≡ false)
-either_false true b e = absurd (true≢false e)
-either_false false b e = (refl, e)
-
--- what holds of an index holds of one with the same parts
-pub same_index : (docs docs' : Map Data) (pending pending' : Set) (listed listed' : Map Data) (lists lists' : Lists)
-    → docs' ≡ docs → pending' ≡ pending → listed' ≡ listed → lists' ≡ lists
-    → AreLists listed lists × AgreeBeyond pending docs listed → AreLists listed' lists' × AgreeBeyond pending' docs' listed'
-same_index docs docs' pending pending' listed listed' lists lists' d p l s keep = (
-  (λ t q. ap (λ x. has (set_at x t) q) s ∙ keep.0 t q ∙ ap (λ x. has_term t (terms_at x q)) (sym l)),
-  (λ q h. ap (λ x. get x q) d ∙ keep.1 q (ap (λ x. has x q) (sym p) ∙ h) ∙ ap (λ x. get x q) (sym l)),
-)
-
--- a document that is noted may change
-pub agree_noted : (pending : Set) (docs listed : Map Data) (r : List ℕ) (x : Option Data) → AgreeBeyond pending docs listed
-    → AgreeBeyond (put text_cmp r (tt {0}) pending) (with_document r x docs) listed
-agree_noted pending docs listed r x agree q h =
-    let apart = either_false (same q r) (has pending q) (sym (has-put r (tt {0}) pending q) ∙ h) in
-    got r x docs q ∙ ap (λ b. cond b x (get docs q)) apart.0 ∙ agree q apart.1
-
 -- once documents are listed, they need not be noted
 pub agree_listed : (pending : Set) (docs listed : Map Data) (rs : List (List ℕ)) → AgreeBeyond pending docs listed
     → AgreeBeyond (without_references rs pending) docs (with_documents rs docs listed)
@@ -364,9 +290,3 @@ agree_listed pending docs listed rs agree q h =
     go : (b : Bool) → (not b && has pending q) ≡ false → get docs q ≡ cond b (get docs q) (get listed q)
     go true i = refl
     go false i = agree q i
-
--- where nothing waits, the lists are those of the documents
-pub all_listed : (pending : Set) (docs listed : Map Data) (lists : Lists) → AreLists listed lists → AgreeBeyond pending docs listed
-    → (length pending == 0) ≡ true → AreLists docs lists
-all_listed [] docs listed lists are agree h t q = are t q ∙ ap (λ o. has_term t (unwrap_or (option_map document_terms o) [])) (sym (agree q refl))
-all_listed (e ∷ es) docs listed lists are agree h t q = absurd (true≢false (sym h ∙ longer (length es)))

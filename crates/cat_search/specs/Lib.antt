@@ -1,4 +1,4 @@
-pub mod Rows
+pub use Rattle.cat_index.specs.Rows
 pub mod Filter
 pub mod Walk
 pub mod Terms

@@ -1,8 +1,6 @@
-//! Documents by reference, with the references under each term of their search rows.
-ghost use Rattle.std.specs.Prelude.{◌≡◌, ◌∷◌, [], IfOk, IfSome, OnOk, is_ok, length, map, option_map, slice_get, unwrap_or, if◌then◌else◌};
-ghost use Rattle.cat_tree.specs.View.{data_of};
-ghost use Rattle.cat_table.specs.Rows.{without};
-ghost use Rattle.cat_table.specs.Table.{get, put, text_cmp};
+//! Which documents an index lists, and which ones filters find in it.
+ghost use Rattle.std.specs.Prelude.{◌≡◌, ◌∷◌, [], IfOk, OnOk, length, map, unwrap_or};
+ghost use Rattle.cat_table.specs.Table.{get};
 ghost use Rattle.cat_search.specs.Filter.{matching};
 ghost use Rattle.cat_search.specs.Index.{AreEntered, AreLists, AreStruck, accepted, accepts_all, all_accepted, at_key, by_key, documents_of, entered, found, has_free, set_at, struck, union, with_condition, with_document, with_documents, with_set, without_references};
 ghost use Rattle.cat_search.specs.Terms.{condition_term};
@@ -11,231 +9,91 @@ use crate::condition::{Condition, Filter};
 use crate::corrections::corrected;
 use crate::folded::lower;
 use crate::postings::{Entry, Posting, first_entries, postings, split_run, with_run, without_run};
-use crate::sets::{Set, common, union};
-use crate::terms::{Term, condition_term};
+use crate::sets::{common, union};
+use crate::terms::condition_term;
+pub use cat_index::index::{Index, IndexParts, Lists, Set, Term};
 use cat_ref::reference::Ref;
 use cat_table::listing::Copied;
 use cat_table::map::Map;
 use cat_tree::text::Text;
-use cat_tree::tree::Tree;
 use cat_types::node::Node;
 use std::alloc::{AllocError, Global};
-use std::marker::Model;
 
-/// The references under each term.
-pub type Lists = Map<Term, Set>;
-
-/// Documents by reference, and for each term of search rows the references of the documents that had it when they were last
-/// listed. A change of a document is noted and listed later, so it takes time by the logarithm of the number of documents,
-/// whatever the document is; what is found is corrected by the documents that wait. Contracts see the documents alone, in
-/// order of reference. A copy shares all of it.
-#[derive(Drop)]
-pub struct Index {
-    documents: Map<Ref, Node>,
-    // those that the lists are of
-    listed: Map<Ref, Node>,
-    // the references whose document may be another than the listed one
-    pending: Set,
-    lists: Lists,
+/// Lists at most so many of the documents that wait, in order of reference. The references under a term change once for all
+/// of those documents. Where memory is wanted, all wait on.
+pub fn list_pending(alloc: Global, index: &mut Index, most: usize) -> Result<(), AllocError>
+    ensures { index.new ≡ index.old }
+{
+    let next = with_listed(alloc, index, most)?;
+    *index = next;
+    Ok(())
 }
 
-impl Model for Index {
-    ghost use Rattle.std.specs.Prelude.{ℕ, List};
-    ghost use Rattle.std.specs.Coded.{coded_list, coded×, coded_ℕ};
-    ghost use Rattle.cat_tree.specs.Data.{Data, data_code};
-
-    ghost Value = { List (List ℕ × Data) };
-
-    ghost coded = { coded_list (coded× (coded_list coded_ℕ) data_code) };
-
-    ghost use Rattle.cat_search.specs.Index.{AgreeBeyond, AreLists};
-
-    ghost view = { λ a. a.documents };
-
-    ghost invariant = { λ a. AreLists a.listed a.lists × AgreeBeyond a.pending a.documents a.listed };
+// The index with the present documents of the first references that wait listed, at most so many.
+fn with_listed(alloc: Global, index: &Index, most: usize) -> Result<Index, AllocError>
+    ensures { IfOk result (λ i. i ≡ index.now) }
+{
+    let parts = index.parts();
+    let entries = first_entries(alloc, parts.pending, most)?;
+    let entries = entries.as_slice();
+    let lists = relisted(alloc, parts.lists, parts.listed, parts.documents, entries)?;
+    let listed = with_present(alloc, parts.listed, parts.documents, entries)?;
+    let pending = without_entries(alloc, parts.pending, entries)?;
+    let documents = parts.documents.share()?;
+    Ok(Index::of_parts(documents, listed, pending, lists))
 }
 
-impl Index {
-    /// No documents. Takes no memory.
-    pub fn empty() -> Index
-        ensures { result ≡ [] }
-    {
-        Index {
-            documents: Map::new(),
-            listed: Map::new(),
-            pending: Map::new(),
-            lists: Map::new(),
-        }
+/// The references of the documents that one of the filters accepts, in order; without a filter those of all documents.
+pub fn find(alloc: Global, index: &Index, filters: &[Filter]) -> Result<Vec<Ref>, AllocError>
+    ensures { IfOk result (λ v. v.items ≡ found filters.now index.now) }
+{
+    let parts = index.parts();
+    if accepts_all(filters) {
+        return Ok(parts.documents.keys(alloc)?.into_vec());
     }
-
-    /// How many documents there are.
-    pub fn len(&self) -> usize
-        ensures { result ≡ length self.now }
-    {
-        self.documents.len()
-    }
-
-    /// Lends the document at a place in the order of the references, with its reference.
-    pub fn at(&self, place: usize) -> Option<&(Ref, Node)>
-        ensures { option_map (λ e. e.now) result ≡ slice_get self.now place }
-    {
-        self.documents.at(place)
-    }
-
-    /// Lends the document of a reference; none where there is none.
-    pub fn get(&self, reference: &Ref) -> Option<&Tree>
-        ensures { option_map (λ t. data_of t.now) result ≡ get self.now reference.now }
-    {
-        Some(self.documents.get(reference)?.tree())
-    }
-
-    /// Lends the documents by reference.
-    pub fn documents(&self) -> &Map<Ref, Node>
-        ensures { result.now ≡ self.now }
-    {
-        &self.documents
-    }
-
-    /// Lends the references under each term of the documents; none where a reference waits to be listed.
-    pub fn lists(&self) -> Option<&Lists>
-        ensures { IfSome result (λ l. AreLists self.now l.now) }
-    {
-        if self.pending.is_empty() {
-            Some(&self.lists)
-        } else {
-            None
-        }
-    }
-
-    /// A copy, which shares everything. Takes no memory.
-    pub fn share(&self) -> Result<Index, AllocError>
-        ensures { IfOk result (λ i. i ≡ self.now) }
-    {
-        Ok(Index {
-            documents: self.documents.share()?,
-            listed: self.listed.share()?,
-            pending: self.pending.share()?,
-            lists: self.lists.share()?,
-        })
-    }
+    let listed = all_accepted(alloc, parts.lists, filters)?;
+    let found = corrected(alloc, parts.documents, parts.pending, filters, listed)?;
+    parts.documents.in_order();
+    found.in_order();
+    Ok(found.keys(alloc)?.into_vec())
 }
 
-impl Index {
-    /// Puts the document of a reference, in place of a former one. It waits to be listed. Where memory is wanted, the index is
-    /// as before. Copies of the index stay as they are.
-    pub fn put(&mut self, alloc: Global, reference: Ref, document: Node) -> Result<(), AllocError>
-        ensures { self.new ≡ (if is_ok result then put text_cmp reference document self.old else self.old) }
-    {
-        let pending = with_reference(alloc, &self.pending, &reference)?;
-        self.documents.put(alloc, reference, document)?;
-        self.pending = pending;
-        Ok(())
+/// How many documents one of the filters accepts; without a filter all of them are counted. Where there is one condition and no
+/// document waits, it takes no longer where more documents match.
+pub fn count(alloc: Global, index: &Index, filters: &[Filter]) -> Result<usize, AllocError>
+    ensures { IfOk result (λ n. n ≡ length (found filters.now index.now)) }
+{
+    let parts = index.parts();
+    if accepts_all(filters) {
+        return Ok(parts.documents.len());
     }
-
-    /// Removes the document of a reference, if there is one. The reference waits to be listed. Where memory is wanted, the
-    /// index is as before. Copies of the index stay as they are.
-    pub fn remove(&mut self, alloc: Global, reference: &Ref) -> Result<(), AllocError>
-        ensures { self.new ≡ (if is_ok result then without text_cmp reference.now self.old else self.old) }
-    {
-        let pending = with_reference(alloc, &self.pending, reference)?;
-        self.documents.remove(alloc, reference)?;
-        self.pending = pending;
-        Ok(())
-    }
-
-    /// Lists at most so many of the documents that wait, in order of reference. The references under a term change once for all
-    /// of those documents. Where memory is wanted, all wait on.
-    pub fn list_pending(&mut self, alloc: Global, most: usize) -> Result<(), AllocError>
-        ensures { self.new ≡ self.old }
-    {
-        let next = self.relisted(alloc, most)?;
-        *self = next;
-        Ok(())
-    }
-
-    // The index with the present documents of the first references that wait listed, at most so many.
-    fn relisted(&self, alloc: Global, most: usize) -> Result<Index, AllocError>
-        ensures { IfOk result (λ i. i ≡ self.now) }
-    {
-        let entries = first_entries(alloc, &self.pending, most)?;
-        let entries = entries.as_slice();
-        let lists = relisted(alloc, &self.lists, &self.listed, &self.documents, entries)?;
-        let listed = with_present(alloc, &self.listed, &self.documents, entries)?;
-        let pending = without_entries(alloc, &self.pending, entries)?;
-        Ok(Index {
-            documents: self.documents.share()?,
-            listed,
-            pending,
-            lists,
-        })
-    }
+    let listed = all_accepted(alloc, parts.lists, filters)?;
+    let found = corrected(alloc, parts.documents, parts.pending, filters, listed)?;
+    parts.documents.in_order();
+    found.in_order();
+    Ok(found.len())
 }
 
-impl Index {
-    /// The references of the documents that one of the filters accepts, in order; without a filter those of all documents.
-    pub fn find(&self, alloc: Global, filters: &[Filter]) -> Result<Vec<Ref>, AllocError>
-        ensures { IfOk result (λ v. v.items ≡ found filters.now self.now) }
-    {
-        if accepts_all(filters) {
-            return Ok(self.documents.keys(alloc)?.into_vec());
-        }
-        let listed = all_accepted(alloc, &self.lists, filters)?;
-        let found = corrected(alloc, &self.documents, &self.pending, filters, listed)?;
-        self.documents.in_order();
-        found.in_order();
-        Ok(found.keys(alloc)?.into_vec())
+/// Lends the documents that one of the filters accepts, with their references, in order; without a filter all of them.
+pub fn matching<'a>(
+    alloc: Global,
+    index: &'a Index,
+    filters: &[Filter],
+) -> Result<Vec<&'a (Ref, Node)>, AllocError>
+    ensures { IfOk result (λ v. map (λ e. e.now) v.items ≡ matching filters.now index.now) }
+{
+    let parts = index.parts();
+    if accepts_all(filters) {
+        return all_entries(alloc, parts.documents);
     }
-
-    /// How many documents one of the filters accepts; without a filter all of them are counted. Where there is one condition and no document
-    /// waits, it takes no longer where more documents match.
-    pub fn count(&self, alloc: Global, filters: &[Filter]) -> Result<usize, AllocError>
-        ensures { IfOk result (λ n. n ≡ length (found filters.now self.now)) }
-    {
-        if accepts_all(filters) {
-            return Ok(self.documents.len());
-        }
-        let listed = all_accepted(alloc, &self.lists, filters)?;
-        let found = corrected(alloc, &self.documents, &self.pending, filters, listed)?;
-        self.documents.in_order();
-        found.in_order();
-        Ok(found.len())
-    }
-
-    /// Lends the documents that one of the filters accepts, with their references, in order; without a filter all of them.
-    pub fn matching(
-        &self,
-        alloc: Global,
-        filters: &[Filter],
-    ) -> Result<Vec<&(Ref, Node)>, AllocError>
-        ensures { IfOk result (λ v. map (λ e. e.now) v.items ≡ matching filters.now self.now) }
-    {
-        if accepts_all(filters) {
-            return all_entries(alloc, &self.documents);
-        }
-        let listed = all_accepted(alloc, &self.lists, filters)?;
-        let found = corrected(alloc, &self.documents, &self.pending, filters, listed)?;
-        self.documents.in_order();
-        found.in_order();
-        documents_of(alloc, &self.documents, &found)
-    }
-}
-
-impl Copied for Index {
-    fn duplicate(&self, _alloc: Global) -> Result<Index, AllocError> {
-        self.share()
-    }
+    let listed = all_accepted(alloc, parts.lists, filters)?;
+    let found = corrected(alloc, parts.documents, parts.pending, filters, listed)?;
+    parts.documents.in_order();
+    found.in_order();
+    documents_of(alloc, parts.documents, &found)
 }
 
 // ---- changes
-
-// The references with this one.
-fn with_reference(alloc: Global, references: &Set, reference: &Ref) -> Result<Set, AllocError>
-    ensures { IfOk result (λ s. s ≡ put text_cmp reference.now (tt {0}) references.now) }
-{
-    let mut set = references.share()?;
-    set.put(alloc, reference.copy(alloc)?, ())?;
-    Ok(set)
-}
 
 // The references without those of the entries.
 fn without_entries(alloc: Global, references: &Set, entries: &[Entry]) -> Result<Set, AllocError>

@@ -3,12 +3,10 @@ ghost use Rattle.std.specs.Prelude.{◌≡◌, ◌<◌, ◌∷◌, [], IfOk, len
 ghost use Rattle.std.specs.List.{filter};
 ghost use Rattle.cat_search.specs.Index.{common, has, in_all, union};
 
+pub use cat_index::index::Set;
 use cat_ref::reference::Ref;
 use cat_table::map::Map;
 use std::alloc::{AllocError, Global};
-
-/// References in order, each once. A copy shares them.
-pub type Set = Map<Ref, ()>;
 
 /// Whether the reference is in the set.
 pub fn has(set: &Set, reference: &Ref) -> bool

@@ -10,13 +10,11 @@ ghost use Rattle.cat_search.specs.Terms.{behind, condition_term, document_terms,
 use crate::condition::Condition;
 use crate::document::{is_added, text_at};
 use crate::folded::lower;
+pub use cat_index::index::Term;
 use cat_tree::ask::child;
 use cat_tree::text::Text;
 use cat_tree::tree::{Pairs, Tree};
 use std::alloc::{AllocError, Global};
-
-/// A key in lower case, and what a condition says behind it in lower case: nothing, or `=` and a value.
-pub type Term = (Text, Text);
 
 // `=` and the value in lower case.
 fn equal_to(alloc: Global, value: &str) -> Result<Text, AllocError>

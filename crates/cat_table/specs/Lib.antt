@@ -1,6 +1,6 @@
 pub mod Left
 pub mod Order
-pub mod Pairs
+pub use Rattle.cat_key.specs.Pairs
 pub mod Parts
 pub mod Places
 pub mod Rows

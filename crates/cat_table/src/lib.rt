@@ -2,14 +2,14 @@
 //!
 //! A `Listing` is a list in whatever order it was made. A `Map` is a sorted tree whose copies share its nodes: a copy takes
 //! no memory, and a change copies no more than the way down to it, so it suits what is planned, kept and taken back. It
-//! stands on cat_tree and cat_ref, whose texts and references are keys.
+//! stands on the traits of cat_key, which it hands on.
 //!
 //! The promise: look-ups and changes are `find`, `put` and `without` over the entries, which stay in order of their keys;
 //! where memory is wanted nothing has changed; a copy equals what it was made of; and trees stay balanced.
 #![tactic(auto)]
 
-pub mod key;
 pub mod listing;
 pub mod map;
-pub mod pair;
 pub mod tree;
+
+pub use cat_key::{key, pair};

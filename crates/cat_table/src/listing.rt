@@ -3,53 +3,10 @@ ghost use Rattle.std.specs.Prelude.{◌≡◌, ◌++◌, ◌∷◌, ◌==◌, []
 ghost use Rattle.std.specs.Iterator.Adapters.{IterYieldsInOrder};
 ghost use Rattle.std.specs.Slice.Iter.{iter_rest};
 
-use cat_ref::reference::Ref;
-use cat_tree::text::Text;
+pub use cat_key::copied::Copied;
 use std::alloc::{AllocError, Global};
 use std::marker::Model;
 use std::slice;
-
-/// What can be copied with memory of its own.
-pub trait Copied {
-    /// An equal value.
-    fn duplicate(&self, alloc: Global) -> Result<Self, AllocError>
-        ensures { IfOk result (λ x. x ≡ self.now) };
-}
-
-impl Copied for Text {
-    fn duplicate(&self, alloc: Global) -> Result<Text, AllocError> {
-        Text::of(alloc, self.as_str())
-    }
-}
-
-impl Copied for Ref {
-    fn duplicate(&self, alloc: Global) -> Result<Ref, AllocError> {
-        self.copy(alloc)
-    }
-}
-
-impl Copied for u64 {
-    fn duplicate(&self, _alloc: Global) -> Result<u64, AllocError> {
-        Ok(*self)
-    }
-}
-
-impl<X: Copied> Copied for Option<X> {
-    fn duplicate(&self, alloc: Global) -> Result<Option<X>, AllocError> {
-        match self {
-            None => Ok(None),
-            Some(x) => Ok(Some(x.duplicate(alloc)?)),
-        }
-    }
-}
-
-impl<X: Copied + Drop, Y: Copied> Copied for (X, Y) {
-    fn duplicate(&self, alloc: Global) -> Result<(X, Y), AllocError> {
-        let first = self.0.duplicate(alloc)?;
-        let second = self.1.duplicate(alloc)?;
-        Ok((first, second))
-    }
-}
 
 /// Items in order. Contracts see the list of them.
 #[derive(Drop)]

@@ -8,9 +8,9 @@ ghost use Rattle.std.specs.List.{fold};
 ghost use Rattle.cat_table.specs.Left.{items_left};
 ghost use Rattle.cat_table.specs.Places.{before, first_from, from};
 
-use crate::key::{Key, Seek};
 use crate::listing::{Copied, Listing};
 use crate::tree::{Items, MOST, Tree, Visit};
+use cat_key::key::{Key, Seek};
 use std::alloc::{AllocError, Global};
 use std::cmp::Ordering;
 use std::marker::Model;

@@ -10,7 +10,7 @@ ghost use Rattle.cat_table.specs.Parts.{IsBalanced, first_of, parted};
 ghost use Rattle.cat_table.specs.Left.{items_left, step_left};
 ghost use Rattle.cat_table.specs.Tree.{Balance, NearBalance};
 
-use crate::key::{Key, Seek};
+use cat_key::key::{Key, Seek};
 use std::alloc::{AllocError, Global};
 use std::cmp::Ordering;
 use std::marker::Model;

@@ -1,7 +1,11 @@
 //! Owned UTF-8 text, seen as the list of its bytes.
 ghost use Rattle.std.specs.Prelude.{◌≡◌, IfOk, string_bytes};
+ghost use Rattle.cat_key.specs.Texts.{text_antisymmetric, text_cmp, text_total};
 
+use cat_key::copied::Copied;
+use cat_key::key::Key;
 use std::alloc::{AllocError, Global};
+use std::cmp::Ordering;
 use std::marker::Model;
 
 /// Owned UTF-8 text. Contracts see it as the list of its bytes.
@@ -40,5 +44,23 @@ impl Text {
         ensures { result.now ≡ self.now }
     {
         self.text.as_str()
+    }
+}
+
+impl Key for Text {
+    ghost order = { text_cmp };
+
+    ghost total = { text_total };
+
+    ghost apart = { text_antisymmetric };
+
+    fn compare(&self, other: &Text) -> Ordering {
+        self.as_str().cmp(other.as_str())
+    }
+}
+
+impl Copied for Text {
+    fn duplicate(&self, alloc: Global) -> Result<Text, AllocError> {
+        Text::of(alloc, self.as_str())
     }
 }

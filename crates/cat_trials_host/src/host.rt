@@ -74,25 +74,44 @@ impl WorkDesk<()> for Idle {
     }
 }
 
-#[test]
-fn workers_end_once_the_servers_have(rt: HostRuntime) -> Result<(), Fail> {
-    let alloc = rt.alloc();
+// A connection with two messages.
+fn connection(alloc: Global) -> Result<MemoryConn, AllocError> {
+    let input = b"GET /a HTTP/1.1\r\nHost: x\r\n\r\nGET /b HTTP/1.0\n\n".to_vec(alloc)?;
+    Ok(MemoryConn {
+        source: MemorySource::new(input, 7, Vec::new(alloc)),
+        sink: MemorySink::new(9, Vec::new(alloc)),
+    })
+}
+
+// Doors with three connections.
+fn doors(alloc: Global) -> Result<MemoryDoors, AllocError> {
     let mut conns = Vec::new(alloc);
     for _ in 0..3 {
-        let input = b"GET /a HTTP/1.1\r\nHost: x\r\n\r\nGET /b HTTP/1.0\n\n".to_vec(alloc)?;
-        conns.push(MemoryConn {
-            source: MemorySource::new(input, 7, Vec::new(alloc)),
-            sink: MemorySink::new(9, Vec::new(alloc)),
-        })?;
+        conns.push(connection(alloc)?)?;
     }
-    let mut doors = MemoryDoors::new(conns, Vec::new(alloc));
+    Ok(MemoryDoors::new(conns, Vec::new(alloc)))
+}
+
+type Helpers<'a> = Vec<Helper<Answering<Counter>, Working<'a, (), Idle>>>;
+
+// Two servers, and a worker for orders and one for documents.
+fn helpers<'a>(alloc: Global, layers: &'a ()) -> Result<Helpers<'a>, AllocError> {
     let mut helpers = Vec::new(alloc);
     for _ in 0..2 {
         helpers.push(Helper::Serves(Answering::new(alloc, Counter { alloc, answered: 0 })))?;
     }
     for part in [Part::Orders, Part::Documents] {
-        helpers.push(Helper::Works(Working::new(alloc, &(), Idle { takes: 0 }, part)))?;
+        helpers.push(Helper::Works(Working::new(alloc, layers, Idle { takes: 0 }, part)))?;
     }
+    Ok(helpers)
+}
+
+#[test]
+fn workers_end_once_the_servers_have(rt: HostRuntime) -> Result<(), Fail> {
+    let alloc = rt.alloc();
+    let mut doors = doors(alloc)?;
+    let layers = ();
+    let mut helpers = helpers(alloc, &layers)?;
     assert_eq!(rt;
         serve(&rt, &mut doors, helpers.as_mut_slice()),
         Ended::Closed

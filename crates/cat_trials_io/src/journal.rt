@@ -9,16 +9,21 @@ use cat_tree::text::Text;
 use std::alloc::{AllocError, Global};
 use std::test::Fail;
 
-// Rows in one text, as `shelf file:/a="{}";`.
+// Puts a row behind those so far, as `shelf file:/a="{}";`.
+fn push_row(text: &mut String, table: Table, key: &str, value: &str) -> Result<(), AllocError> {
+    text.push_str(table.name())?;
+    text.push_str(" ")?;
+    text.push_str(key)?;
+    text.push_str("=")?;
+    text.push_str(value)?;
+    text.push_str(";")
+}
+
+// Rows in one text.
 fn shown(alloc: Global, rows: &StoredRows) -> Result<String, AllocError> {
     let mut text = String::new(alloc);
     for row in rows.iter() {
-        text.push_str(row.0.0.name())?;
-        text.push_str(" ")?;
-        text.push_str(row.0.1.as_str())?;
-        text.push_str("=")?;
-        text.push_str(row.1.as_str())?;
-        text.push_str(";")?;
+        push_row(&mut text, row.0.0, row.0.1.as_str(), row.1.as_str())?;
     }
     Ok(text)
 }

@@ -33,6 +33,18 @@ fn opened(
     }
 }
 
+// Whether what a crash leaves opens, and has the rows then.
+fn opens_after(
+    alloc: Global,
+    keeper: &JournalKeeper<MemoryDisk>,
+    byte: u8,
+    grown: bool,
+) -> Result<bool, AllocError> {
+    let left = keeper.disk().crash(byte, grown)?;
+    let (is_open, mut again) = opened(alloc, left, 0)?;
+    Ok(is_open && gives(alloc, &mut again, &SECOND))
+}
+
 #[test]
 fn a_store_is_brought_over_after_each_crash(rt: HostRuntime) -> Result<(), Fail> {
     let alloc = rt.alloc();
@@ -44,14 +56,8 @@ fn a_store_is_brought_over_after_each_crash(rt: HostRuntime) -> Result<(), Fail>
         let (is_open, keeper) = opened(alloc, first.clone()?, failing)?;
         assert_eq!(rt; is_open, failing > 6, "where call {failing} fails");
         for (byte, grown) in crashes.iter() {
-            let left = keeper.disk().crash(*byte, *grown)?;
-            let (is_open, mut again) = opened(alloc, left, 0)?;
             assert!(rt;
-                is_open,
-                "after a crash at call {failing} that leaves {byte}"
-            );
-            assert!(rt;
-                gives(alloc, &mut again, &SECOND),
+                opens_after(alloc, &keeper, *byte, *grown)?,
                 "after a crash at call {failing} that leaves {byte}"
             );
         }
@@ -69,6 +75,14 @@ fn told(call: &Call) -> &'static str {
     }
 }
 
+// Puts a load and a commit behind the orders so far.
+fn push_round(alloc: Global, orders: &mut Vec<Order>) -> Result<(), AllocError> {
+    let batch = batch_of(alloc, &FIRST)?;
+    orders.push(Order::Load)?;
+    orders.push(Order::Commit(batch))?;
+    Ok(())
+}
+
 // Of a run over an empty disk the sixth call of the disk fails, which is in the first commit.
 #[test]
 fn a_run_goes_on_after_a_commit_that_failed(rt: HostRuntime) -> Result<(), Fail> {
@@ -77,8 +91,7 @@ fn a_run_goes_on_after_a_commit_that_failed(rt: HostRuntime) -> Result<(), Fail>
     let mut keeper = JournalKeeper::over(disk);
     let mut orders = Vec::new(alloc);
     for _ in 0..2 {
-        orders.push(Order::Load)?;
-        orders.push(Order::Commit(batch_of(alloc, &FIRST)?))?;
+        push_round(alloc, &mut orders)?;
     }
     orders.push(Order::Load)?;
     let calls = run(alloc, &mut keeper, orders)?;

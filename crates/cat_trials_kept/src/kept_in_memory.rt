@@ -7,7 +7,18 @@ use cat_keeper::memory::MemoryKeeper;
 use cat_keeper::rows::apply;
 use cat_stored::run_stored;
 use cat_table::map::Map;
+use std::alloc::{AllocError, Global};
 use std::test::Fail;
+
+// How a session without lines ends over the rows of the first version, where one call of their keeper fails.
+fn ran_over(alloc: Global, failing: u64) -> Result<(Status, MemoryKeeper), AllocError> {
+    let first = apply(alloc, &Map::new(), &batch_of(alloc, &FIRST)?)?;
+    let keeper = MemoryKeeper::new(first, vec![in alloc; failing]?);
+    let mut source = MemorySource::new(Vec::new(alloc), 1_000, Vec::new(alloc));
+    let mut sink = MemorySink::new(1_000, Vec::new(alloc));
+    let ran = run_stored(alloc, None, Place::Nowhere, keeper, &mut source, &mut sink);
+    Ok((ran.status, ran.keeper))
+}
 
 #[test]
 fn a_store_is_brought_over_or_stays(rt: HostRuntime) -> Result<(), Fail> {
@@ -15,13 +26,8 @@ fn a_store_is_brought_over_or_stays(rt: HostRuntime) -> Result<(), Fail> {
     // The call of the keeper that fails, the status, and the rows that are there afterwards.
     let cases: [(u64, u8, &[Row]); 3] = [(1, 5, &FIRST), (2, 5, &FIRST), (9, 0, &SECOND)];
     for (failing, status, rows) in cases.iter() {
-        let first = apply(alloc, &Map::new(), &batch_of(alloc, &FIRST)?)?;
-        let keeper = MemoryKeeper::new(first, vec![in alloc; *failing]?);
-        let mut source = MemorySource::new(Vec::new(alloc), 1_000, Vec::new(alloc));
-        let mut sink = MemorySink::new(1_000, Vec::new(alloc));
-        let ran = run_stored(alloc, None, Place::Nowhere, keeper, &mut source, &mut sink);
-        assert_eq!(rt; ran.status, Status(*status));
-        let mut keeper = ran.keeper;
+        let (ended, mut keeper) = ran_over(alloc, *failing)?;
+        assert_eq!(rt; ended, Status(*status));
         assert!(rt;
             gives(alloc, &mut keeper, rows),
             "where call {failing} fails"

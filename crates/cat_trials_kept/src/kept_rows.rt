@@ -56,12 +56,17 @@ pub const SECOND: [Row; 7] = [
     ),
 ];
 
+// Puts a row.
+fn put_row(alloc: Global, batch: &mut Batch, row: &Row) -> Result<(), AllocError> {
+    let key = (row.0, Text::of(alloc, row.1)?);
+    batch.put(alloc, key, Change::Put(Text::of(alloc, row.2)?))
+}
+
 /// What puts these rows.
 pub fn batch_of(alloc: Global, rows: &[Row]) -> Result<Batch, AllocError> {
     let mut batch = Map::new();
-    for (table, key, value) in rows.iter() {
-        let key = (*table, Text::of(alloc, key)?);
-        batch.put(alloc, key, Change::Put(Text::of(alloc, value)?))?;
+    for row in rows.iter() {
+        put_row(alloc, &mut batch, row)?;
     }
     Ok(batch)
 }

@@ -3,6 +3,7 @@ use cat_ends::Status;
 use cat_io::{MemorySink, MemorySource};
 use cat_keeper::keeper::Place;
 use cat_keeper::memory::MemoryKeeper;
+use cat_keeper::rows::StoredRows;
 use cat_keeper::table::Table;
 use cat_stored::{Ran, run_stored, run_stored_connection};
 use cat_table::map::Map;
@@ -10,19 +11,25 @@ use cat_tree::text::Text;
 use std::alloc::{AllocError, Global};
 use std::test::Fail;
 
-// The rows of a store, each as a table, a key and a value.
+// Puts a row, which is a table, a key and a value.
+fn put_row(
+    alloc: Global,
+    kept: &mut StoredRows,
+    row: &(Table, &str, &str),
+) -> Result<(), AllocError> {
+    let key = (row.0, Text::of(alloc, row.1)?);
+    kept.put(alloc, key, Text::of(alloc, row.2)?)
+}
+
+// A keeper of these rows, of which one call fails.
 fn keeper_of(
     alloc: Global,
     rows: &[(Table, &str, &str)],
     failing: u64,
 ) -> Result<MemoryKeeper, AllocError> {
     let mut kept = Map::new();
-    for (table, key, value) in rows {
-        kept.put(
-            alloc,
-            (*table, Text::of(alloc, key)?),
-            Text::of(alloc, value)?,
-        )?;
+    for row in rows {
+        put_row(alloc, &mut kept, row)?;
     }
     Ok(MemoryKeeper::new(kept, vec![in alloc; failing]?))
 }
@@ -65,6 +72,18 @@ const CASES: [(u64, u8, &[u8], &[u8]); 4] = [
     ),
 ];
 
+// How a session ends over a keeper of which one call fails, what it writes, and what a second session over the same keeper writes.
+fn two_sessions(
+    alloc: Global,
+    failing: u64,
+) -> Result<(Status, MemorySink, MemorySink), AllocError> {
+    let keeper = keeper_of(alloc, &[], failing)?;
+    let lines = [OWNER, OWNER, b"settle\nstate\n"].concat(alloc)?;
+    let (ran, first) = session_over(alloc, keeper, lines.as_slice())?;
+    let (_, second) = session_over(alloc, ran.keeper, b"state\nquiet\n")?;
+    Ok((ran.status, first, second))
+}
+
 const NOTHING: &[u8] = b"state records 0 orphans 0 due 0 leased 0 marked 0\nyes\n";
 
 const DUE: &[u8] = b"state records 1 orphans 0 due 1 leased 0 marked 0\nno\n";
@@ -73,13 +92,10 @@ const DUE: &[u8] = b"state records 1 orphans 0 due 1 leased 0 marked 0\nno\n";
 fn what_is_kept_is_there_again(rt: HostRuntime) -> Result<(), Fail> {
     let alloc = rt.alloc();
     for (failing, status, written, again) in CASES.iter() {
-        let keeper = keeper_of(alloc, &[], *failing)?;
-        let lines = [OWNER, OWNER, b"settle\nstate\n"].concat(alloc)?;
-        let (ran, sink) = session_over(alloc, keeper, lines.as_slice())?;
-        assert_eq!(rt; ran.status, Status(*status));
-        assert_eq!(rt; sink.written(), *written);
-        let (_, sink) = session_over(alloc, ran.keeper, b"state\nquiet\n")?;
-        assert_eq!(rt; sink.written(), *again);
+        let (first_status, first, second) = two_sessions(alloc, *failing)?;
+        assert_eq!(rt; first_status, Status(*status));
+        assert_eq!(rt; first.written(), *written);
+        assert_eq!(rt; second.written(), *again);
     }
     Ok(())
 }

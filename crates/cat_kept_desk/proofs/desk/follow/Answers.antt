@@ -1,12 +1,17 @@
-use Rattle.std.proofs.Common.{◌≡◌, refl, sym, ap, ◌∙◌, inl, inr}
+use Rattle.std.proofs.Common.{◌≡◌, refl, sym, ap, subst, ◌∙◌, inl, inr}
 use Rattle.std.proofs.Math.Logic.{∥∥₁_elim}
 use Rattle.std.specs.Coded.{Coded, Coded-set, coded_list, coded×, coded_ℕ}
+use Rattle.cat_core.specs.declared.ledger.Ledger.{Ledger}
+use Rattle.cat_desk.specs.Acts.{Acts}
 use Rattle.cat_desk.specs.Deed.{deed_of}
 use Rattle.cat_keeper.specs.declared.keeper.Committed.TheVariants.{Kept, Failed, NoMemory}
 use Rattle.cat_loop.specs.Word.{memory}
 use Rattle.cat_keeper.specs.contracts.table.Table.{the_row as table_row}
 use Rattle.cat_rows.specs.contracts.row.StoredRow.{the_row as stored_row}
 use Rattle.cat_tables.specs.Stored.{Stored, stored}
+use Rattle.cat_kept_desk.specs.Followed.{IsFollowed}
+use Rattle.cat_spare.specs.Spare.{IsSpare}
+use Rattle.cat_spare.proofs.Again.{acts_from}
 use Rattle.cat_kept_desk.proofs.Answered.{acts_never}
 use Rattle.cat_kept_desk.proofs.Deeds.{needs_some}
 use Rattle.cat_kept_desk.proofs.Followed.{followed}
@@ -18,27 +23,36 @@ coded_stored = coded_list (coded× (coded× table_row.coded (coded_list coded_�
 
 pub keep-requires-clause-rows : goal.keep-requires-clause-rows
 keep-requires-clause-rows g c =
-    ∥∥₁_elim c.requires.followed (Coded-set coded_stored _ _) (λ f. f.rows_are ∙ (λ i. stored (sym f.rule_is i) (sym c.in-Ok.ensures i)))
+    ∥∥₁_elim c.requires.followed (Coded-set coded_stored _ _) (λ f. f.rows_are ∙ (λ i. stored (sym f.rule_is i) (sym c.in-Ok.ensures.saved i)))
 
 pub keep-requires-clause-beyond : goal.keep-requires-clause-beyond
 keep-requires-clause-beyond g c =
     let catalogue = c.args.catalogue.now in
-    command_reaches g.L.Layers.rules c.args.now (deed_of c.args.command.now) catalogue c.act-reply.new.catalogue c.act-reply.result _ _ c.act-reply.ensures c.state-before.ensures.sound c.in-Ok.ensures c.sound_state.ensures.state
+    command_reaches g.L.Layers.rules c.args.now (deed_of c.args.command.now) catalogue c.act-reply.new.catalogue c.act-reply.result _ _ c.act-reply.ensures c.state-before.ensures.sound c.in-Ok.ensures.saved c.sound_state.ensures.state
 
 pub returns-in-Kept-clause-followed : goal.returns-in-Kept-clause-followed
 returns-in-Kept-clause-followed g c =
     let same = ap (λ s. s.orphans) (sym c.act-reply.ensures.settings) in
-    followed _ _ _ _ _ _ _ _ _ _ c.keep.ensures.orphans same c.keep.ensures.told
-    (λ rule rows. c.keep.ensures.rows c.in-Kept.is ∙ (λ i. stored ((rule ∙ same) i) (c.sound_state.ensures.state i))) c.requires.followed
+    subst (λ (l : Ledger). ∥ IsFollowed (g.K.Keeper.tables c.keep.new.store.place c.keep.new.store.keeper) c.keep.new.store.orphans c.keep.new.store.rows l.settings.orphans l.state ∥₁) (sym c.brought_up.ensures.catalogue)
+    (followed _ _ _ _ _ _ _ _ _ _ c.keep.ensures.orphans same c.keep.ensures.told
+    (λ rule rows. c.keep.ensures.rows c.in-Kept.is ∙ (λ i. stored ((rule ∙ same) i) (c.sound_state.ensures.state i))) c.requires.followed)
 
 pub returns-in-Kept-clause-acts : goal.returns-in-Kept-clause-acts
-returns-in-Kept-clause-acts g c = inl (c.act-reply.ensures, refl)
+returns-in-Kept-clause-acts g c =
+    inl (subst (λ (l : Ledger). Acts g.L.Layers.rules c.args.now (deed_of c.args.command.now) c.args.catalogue.now l c.act-reply.result) (sym c.brought_up.ensures.catalogue) c.act-reply.ensures, refl)
+
+pub brought_up-requires-clause-acts : goal.brought_up-requires-clause-acts
+brought_up-requires-clause-acts g c =
+    acts_from g.L.Layers.rules c.args.now (deed_of c.args.command.now) c.args.catalogue.now c.act-reply.new.catalogue c.act-reply.result c.in-Ok.saved c.act-reply.ensures c.in-Ok.ensures.saved
+
+pub returns-in-Kept-clause-spared : goal.returns-in-Kept-clause-spared
+returns-in-Kept-clause-spared g c = subst (λ (l : Ledger). IsSpare c.brought_up.result l.state) (sym c.brought_up.ensures.catalogue) c.brought_up.ensures.spare
 
 pub returns-in-Failed-clause-acts : goal.returns-in-Failed-clause-acts
 returns-in-Failed-clause-acts g c = inr (
   record {
     changes = c.requires.changes;
-    state = c.put_back.ensures.state ∙ c.in-Ok.ensures;
+    state = c.put_back.ensures.state ∙ c.in-Ok.ensures.saved;
     settings = c.put_back.ensures.settings ∙ c.act-reply.ensures.settings;
     answer = refl;
   },
@@ -48,7 +62,7 @@ returns-in-Failed-clause-acts g c = inr (
 pub returns-in-Failed-clause-followed : goal.returns-in-Failed-clause-followed
 returns-in-Failed-clause-followed g c =
     let settings = c.put_back.ensures.settings ∙ c.act-reply.ensures.settings in
-    let state = c.put_back.ensures.state ∙ c.in-Ok.ensures in
+    let state = c.put_back.ensures.state ∙ c.in-Ok.ensures.saved in
     let same = ap (λ s. s.orphans) (sym settings) in
     followed _ _ _ _ _ _ _ _ _ _ c.keep.ensures.orphans same c.keep.ensures.told
     (λ rule rows. c.keep.ensures.same (λ k. (let no : Failed ≡ Kept = sym c.in-Failed.is ∙ k in cc)) ∙ (rows ∙ (λ i. stored (same i) (sym state i)))) c.requires.followed
@@ -57,7 +71,7 @@ pub returns-in-NoMemory-clause-acts : goal.returns-in-NoMemory-clause-acts
 returns-in-NoMemory-clause-acts g c = inl (
   record {
     word = memory;
-    state = c.put_back-in-NoMemory.ensures.state ∙ c.in-Ok.ensures;
+    state = c.put_back-in-NoMemory.ensures.state ∙ c.in-Ok.ensures.saved;
     settings = c.put_back-in-NoMemory.ensures.settings ∙ c.act-reply.ensures.settings;
     answer = refl;
     spare = λ none. absurd (needs_some (deed_of c.args.command.now) c.args.catalogue.now.state c.requires.changes none);
@@ -69,7 +83,7 @@ returns-in-NoMemory-clause-acts g c = inl (
 pub returns-in-NoMemory-clause-followed : goal.returns-in-NoMemory-clause-followed
 returns-in-NoMemory-clause-followed g c =
     let settings = c.put_back-in-NoMemory.ensures.settings ∙ c.act-reply.ensures.settings in
-    let state = c.put_back-in-NoMemory.ensures.state ∙ c.in-Ok.ensures in
+    let state = c.put_back-in-NoMemory.ensures.state ∙ c.in-Ok.ensures.saved in
     let same = ap (λ s. s.orphans) (sym settings) in
     followed _ _ _ _ _ _ _ _ _ _ c.keep.ensures.orphans same c.keep.ensures.told
     (λ rule rows. c.keep.ensures.same (λ k. (let no : NoMemory ≡ Kept = sym c.in-NoMemory.is ∙ k in cc)) ∙ (rows ∙ (λ i. stored (same i) (sym state i)))) c.requires.followed
