@@ -5,7 +5,7 @@ use Rattle.std.specs.Fmt.{decimal}
 use Rattle.std.proofs.Common.{inl, inr}
 use Rattle.std.proofs.lemmas.Bool.Decides.{eqb_tells}
 use Rattle.std.proofs.lemmas.Fmt.{length-decimal-le}
-use Rattle.cat_changes.specs.Place.{since_text}
+use Rattle.cat_fed.specs.cat_changes.specs.Place.{since_text}
 use Rattle.cat_feed.specs.declared.change.Since.{Since}
 use Rattle.cat_http.specs.Errors.{error_body}
 use Rattle.cat_http.specs.Reply.{is_named, phrase_of, status_line, content_lines, allow_line, close_line, end_of, reply_bytes}
@@ -16,8 +16,8 @@ use Rattle.cat_model.specs.declared.types.Acted.TheVariants.{Now, Again}
 use Rattle.cat_model.specs.declared.types.Counter.{Counter}
 use Rattle.cat_model.specs.declared.types.Counter.TheVariants.{Arrival, Number, Token, Ticket}
 use Rattle.cat_model.specs.declared.types.Counts.{Counts}
-use Rattle.cat_replies.specs.Events.{counter_text}
-use Rattle.cat_replies.specs.Line.{joined}
+use Rattle.cat_requests.specs.cat_replies.specs.Events.{counter_text}
+use Rattle.cat_requests.specs.cat_replies.specs.Line.{joined}
 use Rattle.cat_requests.specs.Answers.{answer_body, answer_allow, counts_body, acted_body, reply_to, IsShort, IsShortRefusal}
 use Rattle.cat_requests.specs.Refusals.{allowed, status_of, words_of}
 use Rattle.cat_requests.specs.declared.answer.Answer.{Answer}
@@ -94,6 +94,7 @@ words_short (refusal.TooLarge sum) s n = numbered_short (codes "too_large ") sum
 words_short (refusal.Spent counter) s n = spent_short counter
 words_short (refusal.CutByCounter events counter) s n = cut_short events counter n
 words_short (refusal.CutByMemory events) s n = numbered_short (codes "memory ") events (omega arith) n
+words_short (refusal.CutByKeeper events) s n = numbered_short (codes "keeper ") events (omega arith) n
 words_short refusal.SpentFeed s n = omega arith
 words_short refusal.Reply s n = omega arith
 words_short refusal.Keeper s n = omega arith
@@ -118,6 +119,7 @@ status_small (refusal.TooLarge sum) = omega arith
 status_small (refusal.Spent counter) = omega arith
 status_small (refusal.CutByCounter events counter) = omega arith
 status_small (refusal.CutByMemory events) = omega arith
+status_small (refusal.CutByKeeper events) = omega arith
 status_small refusal.SpentFeed = omega arith
 status_small refusal.Reply = omega arith
 status_small refusal.Keeper = omega arith
@@ -175,6 +177,7 @@ allows_none (refusal.TooLarge sum) s = refl
 allows_none (refusal.Spent counter) s = refl
 allows_none (refusal.CutByCounter events counter) s = refl
 allows_none (refusal.CutByMemory events) s = refl
+allows_none (refusal.CutByKeeper events) s = refl
 allows_none refusal.SpentFeed s = refl
 allows_none refusal.Reply s = refl
 allows_none refusal.Keeper s = refl

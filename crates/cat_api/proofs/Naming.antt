@@ -34,6 +34,7 @@ refusal_named (refusal.TooLarge sum) = refl
 refusal_named (refusal.Spent counter) = refl
 refusal_named (refusal.CutByCounter events counter) = refl
 refusal_named (refusal.CutByMemory events) = refl
+refusal_named (refusal.CutByKeeper events) = refl
 refusal_named refusal.SpentFeed = refl
 refusal_named refusal.Reply = refl
 refusal_named refusal.Keeper = refl

@@ -2,14 +2,14 @@
 use Rattle.std.proofs.Common.{◌≡◌, ℕ, true, false, refl, sym, ap, ◌∙◌}
 use Rattle.std.specs.declared.option.Option.{Option}
 use Rattle.std.specs.declared.option.Option.TheVariants.{None, Some}
-use Rattle.cat_core.specs.Answer.{stop_answer}
-use Rattle.cat_core.specs.declared.ledger.Ledger.{Ledger}
-use Rattle.cat_desk.specs.Acts.{Acts, after_deed, answered, deed_reply, or_refused, settle_reply, settled_as}
-use Rattle.cat_desk.specs.Deed.{Deed}
-use Rattle.cat_desk.specs.Deed.Deed.{Mutate, ShelfPut, ShelfDrop, Refresh, Forget, ForgetNumber, Take, Finish, TakeStitch, PutStitch, Settle}
-use Rattle.cat_desk.specs.declared.command.Reply.{Reply}
-use Rattle.cat_desk.specs.declared.command.Reply.TheVariants as replies
-use Rattle.cat_loop.specs.Word.{Word, plain, memory, cut, unkept}
+use Rattle.cat_fed.specs.cat_core.specs.Answer.{stop_answer}
+use Rattle.cat_fed.specs.cat_core.specs.declared.ledger.Ledger.{Ledger}
+use Rattle.cat_fed.specs.cat_desk.specs.Acts.{Acts, after_deed, answered, deed_reply, or_refused, settle_reply, settled_as}
+use Rattle.cat_fed.specs.cat_desk.specs.Deed.{Deed}
+use Rattle.cat_fed.specs.cat_desk.specs.Deed.Deed.{Mutate, ShelfPut, ShelfDrop, Refresh, Forget, ForgetNumber, Take, Finish, TakeStitch, PutStitch, Settle}
+use Rattle.cat_fed.specs.cat_desk.specs.declared.command.Reply.{Reply}
+use Rattle.cat_fed.specs.cat_desk.specs.declared.command.Reply.TheVariants as replies
+use Rattle.cat_loop.specs.Word.{Word, plain, memory, cut, unkept, cut_unkept}
 use Rattle.cat_model.specs.Catalogue.{Rules}
 use Rattle.cat_model.specs.Settle.{try_settle}
 use Rattle.cat_model.specs.Reply.{acted, finished, placed, taken}
@@ -64,6 +64,7 @@ IsDone plain = Unit {0}
 IsDone memory = ⊥
 IsDone (cut n) = Unit {0}
 IsDone unkept = Unit {0}
+IsDone (cut_unkept i) = Unit {0}
 
 -- a deed was done with such a word, and this is the reply
 pub record Did (rules : Rules) (now : ℕ) (d : Deed) (old new : Ledger) (reply : Reply) : Type 0 where
@@ -79,12 +80,14 @@ module _ (rules : Rules) (now : ℕ) (d : Deed) (old new : Ledger) (reply : Repl
   did_by memory state answer told = let e : true ≡ false = sym (ap lacks_memory answer) ∙ told in cc
   did_by (cut n) state answer told = record { word = cut n; acts = tt; state = state; settings = same; answer = answer }
   did_by unkept state answer told = record { word = unkept; acts = tt; state = state; settings = same; answer = answer }
+  did_by (cut_unkept i) state answer told = record { word = (cut_unkept i); acts = tt; state = state; settings = same; answer = answer }
 
   stayed_by : (word : Word) → new.state ≡ after_deed rules old.settings now word d old.state → reply ≡ deed_reply rules old.settings now word d old.state → lacks_memory reply ≡ true → new.state ≡ old.state
   stayed_by plain state answer wants = let e : true ≡ false = sym wants ∙ ap lacks_memory answer ∙ answer_tells rules old.settings now None old.state d in cc
   stayed_by memory state answer wants = state
   stayed_by (cut n) state answer wants = let e : true ≡ false = sym wants ∙ ap lacks_memory answer ∙ answer_tells rules old.settings now (Some n) old.state d in cc
   stayed_by unkept state answer wants = let e : true ≡ false = sym wants ∙ ap lacks_memory answer ∙ answer_tells rules old.settings now None old.state d in cc
+  stayed_by (cut_unkept i) state answer wants = let e : true ≡ false = sym wants ∙ ap lacks_memory answer ∙ answer_tells rules old.settings now None old.state d in cc
 
 module _ (rules : Rules) (now : ℕ) (d : Deed) (old new : Ledger) (reply : Reply) where
   -- what is told was done

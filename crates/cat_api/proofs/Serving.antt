@@ -3,13 +3,13 @@ use Rattle.std.proofs.Common.{◌≡◌, ◌≢◌, ◌⊎◌, ℕ, List, refl, 
 use Rattle.std.specs.Prelude.{if◌then◌else◌, Option}
 use Rattle.std.specs.declared.result.Result.{Result}
 use Rattle.std.specs.declared.result.Result.TheVariants.{Ok, Err}
-use Rattle.cat_core.specs.declared.ledger.Ledger.{Ledger}
-use Rattle.cat_desk.specs.Acts.{Acts, ActsOnce, after_deed, deed_reply}
-use Rattle.cat_desk.specs.Asks.{AsksOnce, IsAnswer}
-use Rattle.cat_desk.specs.Deed.{Deed}
-use Rattle.cat_desk.specs.declared.command.Asked.{Asked}
-use Rattle.cat_desk.specs.declared.command.Asked.TheVariants.{Written, NotFound, NoFacet, NoMemory}
-use Rattle.cat_desk.specs.declared.command.Reply.{Reply}
+use Rattle.cat_fed.specs.cat_core.specs.declared.ledger.Ledger.{Ledger}
+use Rattle.cat_fed.specs.cat_desk.specs.Acts.{Acts, ActsOnce, after_deed, deed_reply}
+use Rattle.cat_fed.specs.cat_desk.specs.Asks.{AsksOnce, IsAnswer}
+use Rattle.cat_fed.specs.cat_desk.specs.Deed.{Deed}
+use Rattle.cat_fed.specs.cat_desk.specs.declared.command.Asked.{Asked}
+use Rattle.cat_fed.specs.cat_desk.specs.declared.command.Asked.TheVariants.{Written, NotFound, NoFacet, NoMemory}
+use Rattle.cat_fed.specs.cat_desk.specs.declared.command.Reply.{Reply}
 use Rattle.cat_fed.specs.Told.{Tells}
 use Rattle.cat_fed.specs.declared.desk.FeedAnswer.{FeedAnswer}
 use Rattle.cat_fed.specs.declared.desk.FeedAnswer.TheVariants as told
@@ -27,7 +27,7 @@ use Rattle.cat_loop.specs.Word as deeds
 use Rattle.cat_model.specs.Catalogue.{Rules}
 use Rattle.cat_model.specs.declared.types.State.{State}
 use Rattle.cat_query.specs.declared.ask.Ask.{Ask as Question}
-use Rattle.cat_replies.specs.Asks.{AskFault, ask_text}
+use Rattle.cat_requests.specs.cat_replies.specs.Asks.{AskFault, ask_text}
 use Rattle.cat_api.specs.Answering.{Acting, Asking, Telling, Carries, Answers, AnswersBytes, LacksIn, Lacks}
 use Rattle.cat_api.specs.Deeds.{act_answer, ask_answer, asked_answer, changes_answer, told_answer}
 use Rattle.cat_api.specs.Operations.{Operation, operation}
@@ -39,7 +39,7 @@ use Rattle.cat_requests.specs.Answers.{reply_to}
 use Rattle.cat_requests.specs.Requests.{request_of}
 use Rattle.cat_requests.specs.declared.refusal.Refusal.{Refusal}
 use Rattle.cat_requests.specs.declared.request.Request.{Request}
-use Rattle.cat_wire.specs.Worded.{Word, plain, cut, untold, unkept, IsAnswered, AnswersMessage, LacksMemory, IsWorded}
+use Rattle.cat_wire.specs.Worded.{Word, plain, cut, untold, unkept, cut_unkept, IsAnswered, AnswersMessage, LacksMemory, IsWorded}
 
 -- what the desk says to a question is the answer to it
 asked_is : (answer : Result (List ℕ) AskFault) (said : Asked) (text : List ℕ) → IsAnswer answer said text → said ≢ NoMemory → asked_answer said text ≡ ask_answer answer
@@ -119,6 +119,7 @@ module _ {A T : Type 0} (rules : Rules) (timed : A → T) (catalogue : T → Led
     acted_by d k m r reply deeds.plain acts state settings told answer is at = (at, (plain, tt, wired_is old new _ _ state settings told, is ∙ ap (λ x. reply_to m (act_answer k x)) answer))
     acted_by d k m r reply deeds.memory acts state settings told answer is at = absurd acts
     acted_by d k m r reply deeds.unkept acts state settings told answer is at = (at, (unkept, tt, wired_is old new _ _ state settings told, is ∙ ap (λ x. reply_to m (act_answer k x)) answer))
+    acted_by d k m r reply (deeds.cut_unkept i) acts state settings told answer is at = (at, ((cut_unkept i), tt, wired_is old new _ _ state settings told, is ∙ ap (λ x. reply_to m (act_answer k x)) answer))
     acted_by d k m r reply (deeds.cut n) acts state settings told answer is at = (at, (cut n, tt, wired_is old new _ _ state settings told, is ∙ ap (λ x. reply_to m (act_answer k x)) answer))
 
     done_at : (o : Operation) (m : Message) (r : HttpReply) → Carries acts_at asks_at tells_at old new o m r → Done old new o m r

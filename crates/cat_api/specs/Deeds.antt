@@ -1,26 +1,26 @@
 -- How what a desk says becomes an answer.
 use Rattle.std.specs.Prelude.{ℕ, Bool, true, false, List, Result, Ok, Err}
-use Rattle.cat_core.specs.declared.fault.CoreFault.{CoreFault}
-use Rattle.cat_core.specs.declared.fault.CoreFault.TheVariants as core
-use Rattle.cat_desk.specs.declared.command.Asked.{Asked}
-use Rattle.cat_desk.specs.declared.command.Asked.TheVariants as asked
-use Rattle.cat_desk.specs.declared.command.Reply.{Reply}
-use Rattle.cat_desk.specs.declared.command.Reply.TheVariants as replies
+use Rattle.cat_fed.specs.cat_core.specs.declared.fault.CoreFault.{CoreFault}
+use Rattle.cat_fed.specs.cat_core.specs.declared.fault.CoreFault.TheVariants as core
+use Rattle.cat_fed.specs.cat_desk.specs.declared.command.Asked.{Asked}
+use Rattle.cat_fed.specs.cat_desk.specs.declared.command.Asked.TheVariants as asked
+use Rattle.cat_fed.specs.cat_desk.specs.declared.command.Reply.{Reply}
+use Rattle.cat_fed.specs.cat_desk.specs.declared.command.Reply.TheVariants as replies
 use Rattle.cat_tree.specs.Text.{text_of}
 use Rattle.cat_feed.specs.declared.change.Changes.{Changes}
 use Rattle.cat_feed.specs.declared.fault.FeedFault.{FeedFault}
 use Rattle.cat_feed.specs.declared.fault.FeedFault.TheVariants as feed
-use Rattle.cat_changes.specs.Written.{changes_data}
+use Rattle.cat_fed.specs.cat_changes.specs.Written.{changes_data}
 use Rattle.cat_fed.specs.declared.desk.FeedAnswer.{FeedAnswer}
 use Rattle.cat_fed.specs.declared.desk.FeedAnswer.TheVariants as told
-use Rattle.cat_replies.specs.Asks.{AskFault}
-use Rattle.cat_replies.specs.Asks.AskFault.{not_found, no_facet}
+use Rattle.cat_requests.specs.cat_replies.specs.Asks.{AskFault}
+use Rattle.cat_requests.specs.cat_replies.specs.Asks.AskFault.{not_found, no_facet}
 use Rattle.cat_api.specs.declared.kind.Kind.{Kind}
 use Rattle.cat_api.specs.declared.kind.Kind.TheVariants.{Mutation, Shelving, Refreshing, Forgetting, Settling}
 use Rattle.cat_requests.specs.declared.answer.Answer.{Answer}
 use Rattle.cat_requests.specs.declared.answer.Answer.TheVariants.{Shown, Mutated, Done, Refreshed, Settled, Refused}
 use Rattle.cat_requests.specs.declared.refusal.Refusal.{Refusal}
-use Rattle.cat_requests.specs.declared.refusal.Refusal.TheVariants.{Entity, Shelf, Facet, Gone, Ahead, OldSerial, TooLarge, Spent, CutByCounter, CutByMemory, SpentFeed, Reply as Strange, Keeper, NoMemory}
+use Rattle.cat_requests.specs.declared.refusal.Refusal.TheVariants.{Entity, Shelf, Facet, Gone, Ahead, OldSerial, TooLarge, Spent, CutByCounter, CutByMemory, CutByKeeper, SpentFeed, Reply as Strange, Keeper, NoMemory}
 
 -- what isn't there is an entity, or a text on the shelf
 abbrev pub missing : Kind → Refusal
@@ -45,7 +45,7 @@ cut_by events (core.OldSerial last) = CutByMemory events
 cut_by events core.NotFound = CutByMemory events
 cut_by events (core.TooLarge sum) = CutByMemory events
 cut_by events (core.Spent counter) = CutByCounter events counter
-cut_by events core.Keeper = CutByMemory events
+cut_by events core.Keeper = CutByKeeper events
 cut_by events core.NoMemory = CutByMemory events
 
 -- a record that is made due is answered by an empty object, and what else changed by nothing

@@ -5,7 +5,7 @@ use Rattle.cat_model.specs.declared.types.Counts.{Counts}
 use Rattle.cat_requests.specs.declared.answer.Answer.{Answer}
 use Rattle.cat_requests.specs.declared.answer.Answer.TheVariants.{Settled, Refused}
 use Rattle.cat_requests.specs.declared.refusal.Refusal.{Refusal}
-use Rattle.cat_requests.specs.declared.refusal.Refusal.TheVariants.{Reference, Gone, Ahead, OldSerial, TooLarge, CutByCounter, CutByMemory}
+use Rattle.cat_requests.specs.declared.refusal.Refusal.TheVariants.{Reference, Gone, Ahead, OldSerial, TooLarge, CutByCounter, CutByMemory, CutByKeeper}
 use Rattle.cat_requests.specs.declared.request.Request.{Request}
 use Rattle.cat_api.specs.Operations.{Operation, operation}
 use Rattle.cat_api.specs.Operations.Operation.{Act, Ask, Tell}
@@ -19,6 +19,7 @@ HasNumbers (OldSerial last) = last < 2 ^ 64
 HasNumbers (TooLarge sum) = sum < 2 ^ 64
 HasNumbers (CutByCounter events counter) = events < 2 ^ 64
 HasNumbers (CutByMemory events) = events < 2 ^ 64
+HasNumbers (CutByKeeper events) = events < 2 ^ 64
 HasNumbers _ = ⊤
 
 -- and so are those of counts

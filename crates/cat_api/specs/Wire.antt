@@ -1,7 +1,7 @@
 -- What a message does to the catalogue and its feed at the moment 0, and the bytes of the reply.
 use Rattle.std.specs.Prelude.{Result, Ok, Err}
-use Rattle.cat_core.specs.declared.ledger.Ledger.{Ledger}
-use Rattle.cat_desk.specs.Acts.{after_deed, deed_reply}
+use Rattle.cat_fed.specs.cat_core.specs.declared.ledger.Ledger.{Ledger}
+use Rattle.cat_fed.specs.cat_desk.specs.Acts.{after_deed, deed_reply}
 use Rattle.cat_feed.specs.Feed.{asked, feed_after}
 use Rattle.cat_feed.specs.declared.ledger.Ledger.{Ledger as Feed}
 use Rattle.cat_http.specs.Reply.{reply_bytes}
@@ -9,7 +9,7 @@ use Rattle.cat_loop.specs.Word as deeds
 use Rattle.cat_model.specs.Catalogue.{Rules}
 use Rattle.cat_model.specs.declared.types.Settings.{Settings}
 use Rattle.cat_model.specs.declared.types.State.{State}
-use Rattle.cat_replies.specs.Asks.{ask_text}
+use Rattle.cat_requests.specs.cat_replies.specs.Asks.{ask_text}
 use Rattle.cat_api.specs.Deeds.{act_answer, ask_answer, changes_answer}
 use Rattle.cat_api.specs.Operations.{Operation, operation}
 use Rattle.cat_api.specs.Operations.Operation.{Act, Ask, Tell}
@@ -19,7 +19,7 @@ use Rattle.cat_requests.specs.declared.answer.Answer.{Answer}
 use Rattle.cat_requests.specs.declared.answer.Answer.TheVariants.{Refused}
 use Rattle.cat_requests.specs.declared.refusal.Refusal.{Refusal}
 use Rattle.cat_requests.specs.declared.request.Request.{Request}
-use Rattle.cat_wire.specs.Worded.{Word, plain, memory, cut, untold, unkept, After, Reply}
+use Rattle.cat_wire.specs.Worded.{Word, plain, memory, cut, untold, unkept, cut_unkept, After, Reply}
 
 -- a catalogue and its feed
 pub record Wired : Type 0 where
@@ -33,6 +33,7 @@ deed_word memory = deeds.memory
 deed_word (cut n) = deeds.cut n
 deed_word untold = deeds.memory
 deed_word unkept = deeds.unkept
+deed_word (cut_unkept n) = deeds.cut_unkept n
 
 -- ---- the state
 

@@ -3,8 +3,8 @@ ghost use Rattle.std.specs.Prelude.{◌≡◌};
 ghost use Rattle.cat_api.specs.Deeds as spec;
 ghost use Rattle.cat_requests.specs.Answers.{IsShort, IsShortRefusal};
 
-use cat_core::fault::{CoreFault, Cut};
-use cat_desk::command::Reply;
+use cat_fed::cat_core::fault::{CoreFault, Cut};
+use cat_fed::cat_desk::command::Reply;
 use cat_requests::answer::Answer;
 use cat_requests::refusal::Refusal;
 
@@ -53,10 +53,10 @@ fn cut_refusal(cut: Cut) -> Refusal
 {
     match cut.fault {
         CoreFault::Spent(counter) => Refusal::CutByCounter(cut.events, counter),
+        CoreFault::Keeper => Refusal::CutByKeeper(cut.events),
         CoreFault::OldSerial(_)
         | CoreFault::NotFound
         | CoreFault::TooLarge(_)
-        | CoreFault::Keeper
         | CoreFault::NoMemory => Refusal::CutByMemory(cut.events),
     }
 }

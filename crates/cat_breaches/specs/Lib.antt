@@ -4,3 +4,4 @@ pub mod Rules
 pub mod First
 pub mod Named
 pub mod Difference
+pub use Rattle.cat_opening

@@ -4,7 +4,7 @@ use Rattle.std.specs.Prelude.{codes, map}
 use Rattle.json.specs.Print.{escape_byte}
 use Rattle.cat_tree.specs.Data.{Data, words}
 use Rattle.cat_tree.specs.Text.{text_of}
-use Rattle.cat_query.proofs.Texts.{rest_text}
+use Rattle.cat_commands.specs.cat_query.proofs.Texts.{rest_text}
 use Rattle.cat_feed.specs.declared.change.Changes.{Changes}
 use Rattle.std.specs.declared.option.Option.TheVariants.{None, Some}
 use Rattle.cat_changes.specs.Place.{since_text}

@@ -8,8 +8,8 @@ use Rattle.cat_tree.specs.declared.read.TreeFault.TheVariants as tree
 use Rattle.cat_ref.specs.Reference.{parsed, text_at}
 use Rattle.cat_ref.specs.declared.fault.RefFault.{RefFault}
 use Rattle.cat_table.specs.Table.{Text}
-use Rattle.cat_inputs.specs.Body.{and_then, onto}
-use Rattle.cat_inputs.specs.Reading.{tree_reading}
+use Rattle.cat_commands.specs.cat_inputs.specs.Body.{and_then, onto}
+use Rattle.cat_commands.specs.cat_inputs.specs.Reading.{tree_reading}
 use Rattle.cat_feed.specs.declared.change.Change.{Change}
 use Rattle.cat_feed.specs.declared.change.Changes.{Changes}
 use Rattle.cat_feed.specs.declared.change.Since.{Since}

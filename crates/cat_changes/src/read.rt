@@ -7,8 +7,8 @@ ghost use Rattle.cat_changes.specs.Read as spec;
 
 use crate::fault::{ChangesFault, Field, json_fault};
 use crate::place::since_of;
+use cat_commands::cat_inputs::text::read_tree;
 use cat_feed::change::{Change, Changes, Since};
-use cat_inputs::text::read_tree;
 use cat_ref::fault::RefFault;
 use cat_ref::reference::{Ref, parse, text_at};
 use cat_table::listing::Listing;

@@ -4,13 +4,13 @@ ghost use Rattle.serde_json.specs.Written.{comma_if, items_text};
 ghost use Rattle.cat_tree.specs.Data.{items_of, words};
 ghost use Rattle.cat_tree.specs.Text.{json_items, text_of};
 ghost use Rattle.cat_tree.specs.View.{data_of};
-ghost use Rattle.cat_query.specs.Answers.{IsKept};
+ghost use Rattle.cat_commands.specs.cat_query.specs.Answers.{IsKept};
 ghost use Rattle.cat_changes.specs.Written.{change_data, changes_data, place_data, set_of};
 ghost use Rattle.cat_changes.specs.Place.{since_text};
 
 use crate::place::since_text;
+use cat_commands::cat_query::answers::push_tree;
 use cat_feed::change::{Change, Changes, Since};
-use cat_query::answers::push_tree;
 use cat_tree::text::Text;
 use cat_tree::tree::Tree;
 use cat_types::node::Node;

@@ -12,3 +12,6 @@ mod mend;
 pub mod replaced;
 pub mod types;
 mod waiting;
+
+// What this crate stands on and hands on.
+pub use cat_holding;

@@ -11,7 +11,7 @@ ghost use Rattle.cat_claims.specs.Change.{AreAmong, IsChangedAmong, among};
 ghost use Rattle.cat_claims.specs.Renewed.{AreBelow, is_gone, loses, renewed};
 
 use crate::types::Replaced;
-use cat_items::items::OfferedItems;
+use cat_model::cat_items::items::OfferedItems;
 use cat_model::rows::IndexedRows;
 use cat_model::types::{Numbered, Origin, Row, State};
 use cat_ref::reference::Ref;

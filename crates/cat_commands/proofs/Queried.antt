@@ -25,8 +25,8 @@ use Rattle.cat_query.specs.Query.{Asked, Parameter, asked_of, parameters_of, val
 use Rattle.cat_query.specs.SeenQuery.{asked}
 use Rattle.cat_query.specs.declared.fault.QueryFault.{QueryFault}
 use Rattle.cat_query.specs.declared.fault.QueryFault.TheVariants.{BadCursor, NoMemory}
-use Rattle.cat_pages.specs.declared.query.Cursor.{Cursor}
-use Rattle.cat_pages.specs.declared.query.Query.{Query}
+use Rattle.cat_query.specs.cat_pages.specs.declared.query.Cursor.{Cursor}
+use Rattle.cat_query.specs.cat_pages.specs.declared.query.Query.{Query}
 use Rattle.cat_commands.specs.Queries.{cursor_among, cursor_in, cursor_of, cursor_of_bytes, cursor_of_tree, cursor_of_two, cursor_with, itself, limited, one_cursor, query_of, query_with, reference_in, spelled, value_in, with_cursor}
 
 -- ---- equal texts

@@ -15,8 +15,8 @@ use Rattle.cat_query.specs.Cursor.{cursor_text}
 use Rattle.cat_query.specs.Query.{Asked, Parameter, asked_of, parameters_of, values_named}
 use Rattle.cat_query.specs.declared.fault.QueryFault.{QueryFault}
 use Rattle.cat_query.specs.declared.fault.QueryFault.TheVariants.{BadCursor, BadLimit}
-use Rattle.cat_pages.specs.declared.query.Cursor.{Cursor}
-use Rattle.cat_pages.specs.declared.query.Query.{Query}
+use Rattle.cat_query.specs.cat_pages.specs.declared.query.Cursor.{Cursor}
+use Rattle.cat_query.specs.cat_pages.specs.declared.query.Query.{Query}
 
 -- ---- cursors
 

@@ -12,3 +12,7 @@ pub mod line;
 pub mod query;
 pub mod read;
 pub mod references;
+
+// What this crate stands on and hands on.
+pub use cat_inputs;
+pub use cat_query;

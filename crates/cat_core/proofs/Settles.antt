@@ -15,9 +15,9 @@ use Rattle.cat_model.specs.Catalogue.{Rules}
 use Rattle.cat_model.specs.Reply.{counts}
 use Rattle.cat_model.specs.Settle.{not_begun, try_settle}
 use Rattle.cat_model.specs.Sound.{AreBegun, AreSmall, Quiet, Sound}
-use Rattle.cat_laws.proofs.Stands.{settle_keeps}
-use Rattle.cat_laws.proofs.Tried.{unstopped_quiet}
-use Rattle.cat_settle.specs.Part.{Came, IsDone}
+use Rattle.cat_settle.specs.cat_laws.proofs.Stands.{settle_keeps}
+use Rattle.cat_settle.specs.cat_laws.proofs.Tried.{unstopped_quiet}
+use Rattle.cat_settle.specs.Part.{Came, IsCut, IsDone}
 use Rattle.cat_core.specs.Answer.{IsCause, IsSettled, IsWhole, core_fault, settle_answer, stop_answer}
 
 cause_is : (fault : Fault) (stop : Option Stop) → stop ≡ Some (StopRefused fault) → IsCause (core_fault fault) stop
@@ -58,6 +58,11 @@ module _ (rules : Rules) (s : Settings) (now : ℕ) (m : State) where
     settles (Ok x) p few h = stopped p few h p.stop refl
     settles (Err e) p few h = record { state = tt; counts = tt; quiet = tt; ended = tt; cut = record { state = h.state few; events = h.events few; cause = tt; whole = tt } }
 
+-- just the first events stand of what was done, or cut
+pub first_events : {A E : Type 0} (rules : Rules) (s : Settings) (now : ℕ) (m : State) (came : Result A E) (p : Progress) → p.events < 2 ^ 64 - 1 → Came came (λ limit. try_settle rules s now limit m) p → IsCut (λ limit. try_settle rules s now limit m) p
+first_events rules s now m (Ok x) p few h = h.first
+first_events rules s now m (Err e) p few h = h
+
 -- a progress that isn't begun, of a given state
 pub begun_small : (p : Progress) (m : State) → p ≡ not_begun m → AreSmall m → AreSmall p.state
 begun_small p m e h = subst AreSmall (ap (λ (q : Progress). q.state) (sym e)) h
@@ -69,5 +74,9 @@ pub begun_still : (p : Progress) (m : State) → p ≡ not_begun m → p ≡ not
 begun_still p m e = e ∙ ap not_begun (sym (ap (λ (q : Progress). q.state) e))
 
 -- a progress that isn't begun has few events
-pub begun_few : (p : Progress) (m : State) → p ≡ not_begun m → p.events < 2 ^ 64 - 1
-begun_few p m e = let z : p.events ≡ 0 = ap (λ (q : Progress). q.events) e in omega arith
+pub begun_within : (most : ℕ) (p : Progress) (m : State) → p ≡ not_begun m → p.events ≤ most
+begun_within most p m e = let z : p.events ≡ 0 = ap (λ (q : Progress). q.events) e in omega arith
+
+-- and so has what keeps to a limit below the greatest number
+pub few_events : (most : ℕ) (p : Progress) → p.events ≤ most → most < 2 ^ 64 - 1 → p.events < 2 ^ 64 - 1
+few_events most p within few = omega arith

@@ -3,3 +3,7 @@ pub mod Kept
 pub mod Least
 pub mod Numbered
 pub mod Waits
+pub use Rattle.cat_settle.specs.cat_events
+pub use Rattle.cat_settle.specs.cat_hold
+pub use Rattle.cat_settle.specs.cat_laws
+pub use Rattle.cat_search

@@ -1,6 +1,6 @@
 //! The catalogue.
-ghost use Rattle.std.specs.Prelude.{◌≡◌, ℕ, ◌<◌, ◌≤◌, ◌^◌, IfOk, IfErr, Option, IsTrue, ◌↔◌, is_ok, option_map, slice_get};
-ghost use Rattle.std.specs.declared.option.Option.TheVariants.{None};
+ghost use Rattle.std.specs.Prelude.{◌≡◌, ℕ, ◌<◌, ◌≤◌, ◌-◌, ◌^◌, IfOk, IfErr, Option, IsTrue, ◌↔◌, is_ok, option_map, slice_get};
+ghost use Rattle.std.specs.declared.option.Option.TheVariants.{None, Some};
 ghost use Rattle.std.specs.FinMap.Entries.{is_sorted};
 ghost use Rattle.cat_table.specs.Table.{get, text_cmp};
 ghost use Rattle.cat_model.specs.Catalogue.{holding};
@@ -9,8 +9,8 @@ ghost use Rattle.cat_model.specs.Given.{given};
 ghost use Rattle.cat_model.specs.Reply.{acted, counts, finished, issues_at, next_known, next_stitch, placed, resting, state_counts, taken, waiting};
 ghost use Rattle.cat_model.specs.Settle.{not_begun, try_settle};
 ghost use Rattle.cat_model.specs.Sound.{AreBegun, AreSmall, Quiet, Sound, its_number};
-ghost use Rattle.cat_events.specs.Coming.{HasCome, IsSteady};
-ghost use Rattle.cat_events.specs.Stepped.{come_to, AreMoments};
+ghost use Rattle.cat_settle.specs.cat_events.specs.Coming.{HasCome, IsSteady};
+ghost use Rattle.cat_settle.specs.cat_events.specs.Stepped.{come_to, AreMoments};
 ghost use Rattle.cat_core.specs.Answer.{IsSettled, settle_answer};
 ghost use Rattle.cat_model.specs.Step.{ref_at, refusal, source_at, start, step};
 ghost use Rattle.cat_model.specs.Step.Event.{Finish, Forget, ForgetNumber, Mutate, PutStitch, Refresh, ShelfDrop, ShelfPut, Take};
@@ -25,15 +25,6 @@ use crate::questions::{
     counts_of, is_quiet, issues_of, number_of, rests, stitch_after, stitch_reply,
 };
 use crate::waiting::waiting_at;
-use cat_events::change::{forget, shelf_drop, shelf_put};
-pub use cat_events::done::{Done, Stitched};
-use cat_events::finish::finish;
-use cat_events::given::{given_by, serial_of};
-use cat_events::lease::refresh;
-use cat_events::mutation::{last_serial, mutate};
-use cat_events::stitch::put_stitch;
-use cat_hold::hold::row_of;
-use cat_hold::layers::Layers;
 use cat_links::links::Links;
 use cat_marks::marks::Marks;
 use cat_model::records::Records;
@@ -44,6 +35,16 @@ use cat_model::types::{
 };
 use cat_ref::reference::Ref;
 use cat_search::index::{Index, list_pending};
+use cat_settle::cat_events::change::{forget, shelf_drop, shelf_put};
+pub use cat_settle::cat_events::done::{Done, Stitched};
+use cat_settle::cat_events::finish::finish;
+use cat_settle::cat_events::given::{given_by, serial_of};
+use cat_settle::cat_events::lease::refresh;
+use cat_settle::cat_events::mutation::{last_serial, mutate};
+use cat_settle::cat_events::stitch::put_stitch;
+use cat_settle::cat_hold::hold::row_of;
+use cat_settle::cat_hold::layers::Layers;
+use cat_settle::order::MOST_EVENTS;
 use cat_settle::settle::settled;
 use cat_table::listing::{Copied, Listing};
 use cat_table::map::Map;
@@ -223,10 +224,39 @@ fn settle_state<L: Layers>(
 {
     let taken = mem::replace(state, empty_state(alloc));
     let mut p = begun(taken);
-    let came = settled(alloc, layers, settings, now, &mut p, links);
+    let came = settled(alloc, layers, settings, MOST_EVENTS, now, &mut p, links);
     let reply = settle_reply(came, &p);
     *state = p.state;
     reply
+}
+
+// Does at most so many events of a settle to a state, and gives how many stand. It is taken out for as long as it is settled.
+fn settle_begun<L: Layers>(
+    alloc: Global,
+    layers: &L,
+    settings: &Settings,
+    most: u64,
+    now: u64,
+    state: &mut State,
+    links: &mut Links,
+) -> u64
+    requires steady { IsSteady L.rules links.old state.old }
+    requires begun { AreBegun state.old }
+    requires moments { AreMoments settings.now now }
+    requires interval { 1 ≤ settings.now.interval }
+    requires few { most < 2 ^ 64 - 1 }
+    ensures most { result ≤ most }
+    ensures state { state.new ≡ (try_settle L.rules settings.now now (Some result) state.old).state }
+    ensures events { (try_settle L.rules settings.now now (Some result) state.old).events ≡ result }
+    ensures steady { IsSteady L.rules links.new state.new }
+    ensures begun { AreBegun state.new }
+{
+    let taken = mem::replace(state, empty_state(alloc));
+    let mut p = begun(taken);
+    let _came = settled(alloc, layers, settings, most, now, &mut p, links);
+    let events = p.events;
+    *state = p.state;
+    events
 }
 
 impl<L: Layers> Catalogue<L> {
@@ -411,6 +441,27 @@ impl<L: Layers> Catalogue<L> {
             alloc,
             &self.layers,
             &self.ledger.settings,
+            now,
+            &mut self.ledger.state,
+            &mut self.links,
+        )
+    }
+
+    /// Does the first events of a settle, `most` of them at most, and gives how many stand: fewer where there are no more, where the next is
+    /// refused, or where memory lacks. Another settle goes on from there.
+    pub fn settle_within(&mut self, alloc: Global, now: u64, most: u64) -> u64
+        requires moment { now < 2 ^ 53 }
+        requires few { most < 2 ^ 64 - 1 }
+        ensures most { result ≤ most }
+        ensures settings { self.new.settings ≡ self.old.settings }
+        ensures state { self.new.state ≡ (try_settle L.rules self.old.settings now (Some result) self.old.state).state }
+        ensures events { (try_settle L.rules self.old.settings now (Some result) self.old.state).events ≡ result }
+    {
+        settle_begun(
+            alloc,
+            &self.layers,
+            &self.ledger.settings,
+            most,
             now,
             &mut self.ledger.state,
             &mut self.links,

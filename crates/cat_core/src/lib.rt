@@ -14,3 +14,7 @@ pub mod ledger;
 pub mod orders;
 pub mod questions;
 pub mod waiting;
+
+// What this crate stands on and hands on.
+pub use cat_search;
+pub use cat_settle::{cat_events, cat_hold, cat_laws};

@@ -15,7 +15,7 @@ use Rattle.cat_desk.specs.declared.command.Reply.{Reply}
 use Rattle.cat_desk.specs.declared.command.Reply.TheVariants as replies
 use Rattle.cat_io.specs.Clock.{CountsReading}
 use Rattle.cat_table.specs.Table.{get}
-use Rattle.cat_loop.specs.Word.{Word, plain, memory, cut, unkept}
+use Rattle.cat_loop.specs.Word.{Word, plain, memory, cut, unkept, cut_unkept}
 use Rattle.cat_model.specs.Catalogue.{Rules}
 use Rattle.cat_model.specs.Reply.{acted, finished, next_stitch, placed, taken}
 use Rattle.cat_model.specs.Settle.{try_settle}
@@ -51,6 +51,7 @@ after_deed rules s now plain d m = done rules s now None d m
 after_deed rules s now memory d m = m
 after_deed rules s now (cut n) d m = done rules s now (Some n) d m
 after_deed rules s now unkept d m = done rules s now None d m
+after_deed rules s now (cut_unkept n) d m = done rules s now None d m
 
 -- ---- what is answered
 
@@ -98,6 +99,7 @@ deed_reply rules s now plain d m = answered rules s now None d m
 deed_reply rules s now memory d m = replies.Refused NoMemory
 deed_reply rules s now (cut n) d m = answered rules s now (Some n) d m
 deed_reply rules s now unkept d m = answered rules s now None d m
+deed_reply rules s now (cut_unkept n) d m = answered rules s now None d m
 
 -- ---- what takes no memory
 
@@ -124,6 +126,7 @@ IsExact rules s now m d plain = ⊤
 IsExact rules s now m d memory = ⊤
 IsExact rules s now m d (cut n) = (d ≡ Settle) × ((try_settle rules s now (Some n) m).events ≡ n)
 IsExact rules s now m d unkept = ⊤
+IsExact rules s now m d (cut_unkept n) = ⊤
 
 -- A deed was done to a catalogue at this moment, or lacked memory where it takes any, and this is the reply.
 pub record Acts (rules : Rules) (now : ℕ) (d : Deed) (old new : Ledger) (reply : Reply) : Type 0 where

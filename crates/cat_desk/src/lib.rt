@@ -11,3 +11,8 @@ pub mod asks;
 pub mod command;
 pub mod desk;
 pub mod timed;
+
+// What this crate stands on and hands on.
+pub use cat_core;
+pub use cat_core::cat_hold;
+pub use cat_replies::cat_query;

@@ -1,19 +1,21 @@
 //! A catalogue with a clock.
-ghost use Rattle.std.specs.Prelude.{◌≡◌, ◌≢◌, ◌<◌, ◌++◌, ◌^◌, List, ℕ};
+ghost use Rattle.std.specs.Prelude.{◌≡◌, ◌≢◌, ◌<◌, ◌≤◌, ◌-◌, ◌++◌, ◌^◌, List, ℕ};
+ghost use Rattle.std.specs.declared.option.Option.TheVariants.{Some};
 ghost use Rattle.cat_desk.specs.Acts.{Acts, ActsOnce, reply_as, settled_as};
 ghost use Rattle.cat_desk.specs.Asks.{AsksOnce};
 ghost use Rattle.cat_desk.specs.Deed.{deed_of};
 ghost use Rattle.cat_desk.specs.declared.command.Reply.TheVariants as replies;
+ghost use Rattle.cat_model.specs.Settle.{try_settle};
 
 use crate::asks::{prepare, write_ask};
 use crate::command::{Asked, Command, Reply};
 use crate::desk::Desk;
+use cat_core::cat_hold::layers::Layers;
 use cat_core::catalogue::{Catalogue, Done, Saved, Stitched};
 use cat_core::fault::{CoreFault, Cut};
-use cat_hold::layers::Layers;
 use cat_io::{Clock, FixedClock};
 use cat_model::types::{Acted, Counts, Finished, Order, Placed, StitchOrder};
-use cat_query::ask::Ask;
+use cat_replies::cat_query::ask::Ask;
 use std::alloc::Global;
 
 /// A catalogue with a clock, which is read once for each command and each question.
@@ -80,6 +82,19 @@ impl<L: Layers> Timed<L, FixedClock> {
         ensures bound { result < 2 ^ 53 }
     {
         self.clock.moment()
+    }
+
+    /// Does the first events of a settle, `most` of them at most, and gives how many stand (`Catalogue::settle_within`).
+    pub fn settle_within(&mut self, alloc: Global, most: u64) -> u64
+        requires { most < 2 ^ 64 - 1 }
+        ensures most { result ≤ most }
+        ensures state { self.new.catalogue.state ≡ (try_settle L.rules self.old.catalogue.settings self.old.clock.moment (Some result) self.old.catalogue.state).state }
+        ensures events { (try_settle L.rules self.old.catalogue.settings self.old.clock.moment (Some result) self.old.catalogue.state).events ≡ result }
+        ensures settings { self.new.catalogue.settings ≡ self.old.catalogue.settings }
+        ensures clock { self.new.clock ≡ self.old.clock }
+    {
+        let now = self.moment();
+        self.catalogue.settle_within(alloc, now, most)
     }
 
     /// The clock stands at this moment from here on.

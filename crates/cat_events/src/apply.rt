@@ -6,8 +6,8 @@ ghost use Rattle.cat_events.specs.Planned.{given_by, planned, with_marks, with_o
 use crate::plan::{Inputs, Plan};
 use cat_claims::types::Claimed;
 use cat_frame::amended::Amendment;
-use cat_index::index::Index;
 use cat_links::links::Links;
+use cat_model::cat_index::index::Index;
 use cat_model::records::ready;
 use cat_model::types::{Orphan, Record, State};
 use cat_ref::reference::Ref;

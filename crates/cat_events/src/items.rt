@@ -2,7 +2,7 @@
 ghost use Rattle.std.specs.Prelude.{◌≡◌, IfOk, [], cond};
 ghost use Rattle.cat_model.specs.Step.{items_after, put_all, without};
 
-use cat_items::items::OfferedItems;
+use cat_model::cat_items::items::OfferedItems;
 use cat_model::types::Given;
 use cat_ref::reference::Ref;
 use cat_table::listing::Copied;

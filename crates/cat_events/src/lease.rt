@@ -9,7 +9,7 @@ ghost use Rattle.cat_events.specs.Coming.{came_fault, came_state};
 ghost use Rattle.cat_events.specs.Stepped.{come_to, AreMoments};
 
 use crate::refusal::MOST;
-use cat_hold::layers::Layers;
+use cat_frame::cat_hold::layers::Layers;
 use cat_model::types::{Counter, Fault, Lease, Settings, State};
 use cat_ref::reference::Ref;
 

@@ -23,3 +23,7 @@ pub mod present;
 pub mod refusal;
 pub mod stepped;
 pub mod stitch;
+
+// What this crate stands on and hands on.
+pub use cat_frame;
+pub use cat_frame::{cat_hold, cat_laws};

@@ -7,9 +7,9 @@ ghost use Rattle.cat_events.specs.Coming.{IsSteady};
 ghost use Rattle.cat_events.specs.Planned.{IsOwned, IsReached, fresh_of, holders_after, leaving_of, planned, rows_after, shelf_after};
 
 use cat_claims::types::Claimed;
+use cat_frame::cat_hold::layers::Layers;
 use cat_frame::change::{Change, Own};
 use cat_frame::following::{Following, plan};
-use cat_hold::layers::Layers;
 use cat_links::links::Links;
 use cat_model::rows::IndexedRows;
 use cat_model::types::{Leaving, ProviderInputs, State};

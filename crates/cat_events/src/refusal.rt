@@ -11,7 +11,7 @@ ghost use Rattle.cat_events.specs.Stepped.{over_limit, stepped};
 use crate::plan::{Inputs, Plan, shelf_after};
 use crate::stepped::Step;
 use cat_claims::types::Claimed;
-use cat_hold::layers::Layers;
+use cat_frame::cat_hold::layers::Layers;
 use cat_model::types::{Counter, Fault, ProviderInputs, Settings, State};
 use cat_table::map::Map;
 use cat_tree::text::Text;

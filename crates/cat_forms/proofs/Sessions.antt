@@ -6,7 +6,7 @@ use Rattle.std.specs.declared.result.Result.{Result}
 use Rattle.std.specs.declared.result.Result.TheVariants.{Ok, Err}
 use Rattle.std.specs.Ordering.{nat_cmp}
 use Rattle.cat_table.specs.Table.{find}
-use Rattle.cat_loop.specs.Word.{Word, plain, memory, cut, unkept}
+use Rattle.cat_loop.specs.Word.{Word, plain, memory, cut, unkept, cut_unkept}
 use Rattle.cat_loop.specs.Runs.{line_after, after_lines}
 use Rattle.cat_loop.specs.Lines.{longest_line}
 use Rattle.cat_commands.specs.Lines.{line_of}
@@ -81,6 +81,7 @@ module _ (rules : Rules) (form : FormRules rules) (s : Settings) where
     line_stands m memory bytes h = h
     line_stands m (cut n) bytes h = either_stands (nat_lt longest_line (length bytes)) m _ h (after_stands m (cut n) bytes h)
     line_stands m unkept bytes h = either_stands (nat_lt longest_line (length bytes)) m _ h (after_stands m unkept bytes h)
+    line_stands m (cut_unkept i) bytes h = either_stands (nat_lt longest_line (length bytes)) m _ h (after_stands m (cut_unkept i) bytes h)
 
     pub lines_stand : (m : SessionState) (lines : List (List ℕ)) (words : List Word) → Stands m → Stands (after_lines (session_after rules s) m lines words)
     lines_stand m [] words h = h

@@ -14,3 +14,7 @@ pub mod mark_plan;
 pub mod orphan_plan;
 pub mod parts;
 pub mod record_plan;
+
+// What this crate stands on and hands on.
+pub use cat_hold;
+pub use cat_laws;

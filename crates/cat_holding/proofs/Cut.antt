@@ -9,15 +9,15 @@ use Rattle.std.specs.Cmp.{nat_cmp_total}
 use Rattle.std.specs.FinMap.{nat_cmp-IsAntisymmetric}
 use Rattle.std.proofs.lemmas.Bool.Decides.{nat_tests}
 use Rattle.cat_table.specs.Table.{same_text, get, keys}
-use Rattle.cat_model.specs.Catalogue.{Ref, Rows, Holders, held, row_at, holding, climbs_row, climbs_origin, climbs, rooted}
-use Rattle.cat_model.specs.declared.types.Origin.{Origin}
-use Rattle.cat_model.specs.declared.types.Row.{Row}
-use Rattle.cat_model.specs.declared.types.Origin.TheVariants.{Provider, Entity}
-use Rattle.cat_model.specs.Sound.{AreHolders, AreNamed, rooted_holders}
-use Rattle.cat_model.specs.Step.{same_origin}
+use Rattle.cat_laws.specs.cat_model.specs.Catalogue.{Ref, Rows, Holders, held, row_at, holding, climbs_row, climbs_origin, climbs, rooted}
+use Rattle.cat_laws.specs.cat_model.specs.declared.types.Origin.{Origin}
+use Rattle.cat_laws.specs.cat_model.specs.declared.types.Row.{Row}
+use Rattle.cat_laws.specs.cat_model.specs.declared.types.Origin.TheVariants.{Provider, Entity}
+use Rattle.cat_laws.specs.cat_model.specs.Sound.{AreHolders, AreNamed, rooted_holders}
+use Rattle.cat_laws.specs.cat_model.specs.Step.{same_origin}
 use Rattle.cat_table.proofs.Tables.{text_total, text_antisymmetric, found_key, find-over, any_filter, same_tabulated}
 use Rattle.cat_laws.proofs.Replaced.{same_origin-is, same_origin-self}
-use Rattle.cat_model.specs.Rows.{is_from, given}
+use Rattle.cat_laws.specs.cat_model.specs.Rows.{is_from, given}
 use Rattle.cat_holding.specs.Mend.{is_holder, held_by, lost_by, lost, children, below, cut_off, released, IsReplaced}
 use Rattle.cat_holding.proofs.Members.{any_left, any_right, any_either, filter_passes, flat_map_in, flat_map_from, filter_map_in, filter_map_from}
 

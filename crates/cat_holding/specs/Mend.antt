@@ -6,13 +6,13 @@ use Rattle.std.specs.declared.option.Option.TheVariants.{None, Some}
 use Rattle.std.specs.Ordering.{nat_cmp}
 use Rattle.std.specs.List.{filter, filter_map, flat_map, list_any}
 use Rattle.cat_table.specs.Table.{text_cmp, same_text, get, over}
-use Rattle.cat_model.specs.Catalogue.{Ref, Rows, Holders, row_at, held, may_offer, claims, hold}
-use Rattle.cat_model.specs.declared.types.Origin.{Origin}
-use Rattle.cat_model.specs.declared.types.Row.{Row}
-use Rattle.cat_model.specs.declared.types.Origin.TheVariants.{Provider, Entity}
-use Rattle.cat_model.specs.declared.types.State.{State}
-use Rattle.cat_model.specs.Rows.{given, named, same_origin}
-use Rattle.cat_model.specs.Sound.{AreHolders}
+use Rattle.cat_laws.specs.cat_model.specs.Catalogue.{Ref, Rows, Holders, row_at, held, may_offer, claims, hold}
+use Rattle.cat_laws.specs.cat_model.specs.declared.types.Origin.{Origin}
+use Rattle.cat_laws.specs.cat_model.specs.declared.types.Row.{Row}
+use Rattle.cat_laws.specs.cat_model.specs.declared.types.Origin.TheVariants.{Provider, Entity}
+use Rattle.cat_laws.specs.cat_model.specs.declared.types.State.{State}
+use Rattle.cat_laws.specs.cat_model.specs.Rows.{given, named, same_origin}
+use Rattle.cat_laws.specs.cat_model.specs.Sound.{AreHolders}
 
 -- ---- what holds
 

@@ -3,19 +3,19 @@
 ghost use Rattle.std.specs.Prelude.{◌≡◌, ◌<◌, ◌⊎◌, ℕ, List, None, Option, Some, T, false, true};
 ghost use Rattle.std.specs.FinMap.Entries.{is_sorted};
 ghost use Rattle.std.specs.Ordering.{nat_cmp};
-ghost use Rattle.cat_model.specs.Catalogue.{Holders, Ref, Rows, Rules, held, may_offer, output_of, rehold, row_at, standing};
-ghost use Rattle.cat_model.specs.Sound.{AreHolders, Sound};
-ghost use Rattle.cat_model.specs.Rows.{same_origin};
-ghost use Rattle.cat_model.specs.Step.{items_after, replaced, source_at};
-ghost use Rattle.cat_model.specs.declared.types.Given.{Given};
-ghost use Rattle.cat_model.specs.declared.types.Origin.{Origin};
-ghost use Rattle.cat_model.specs.declared.types.Origin.TheVariants.{Entity, Provider};
-ghost use Rattle.cat_model.specs.declared.types.Row.{Row};
-ghost use Rattle.cat_model.specs.declared.types.State.{State};
+ghost use Rattle.cat_laws.specs.cat_model.specs.Catalogue.{Holders, Ref, Rows, Rules, held, may_offer, output_of, rehold, row_at, standing};
+ghost use Rattle.cat_laws.specs.cat_model.specs.Sound.{AreHolders, Sound};
+ghost use Rattle.cat_laws.specs.cat_model.specs.Rows.{same_origin};
+ghost use Rattle.cat_laws.specs.cat_model.specs.Step.{items_after, replaced, source_at};
+ghost use Rattle.cat_laws.specs.cat_model.specs.declared.types.Given.{Given};
+ghost use Rattle.cat_laws.specs.cat_model.specs.declared.types.Origin.{Origin};
+ghost use Rattle.cat_laws.specs.cat_model.specs.declared.types.Origin.TheVariants.{Entity, Provider};
+ghost use Rattle.cat_laws.specs.cat_model.specs.declared.types.Row.{Row};
+ghost use Rattle.cat_laws.specs.cat_model.specs.declared.types.State.{State};
 ghost use Rattle.cat_table.specs.Table.{Text, get, keys, same_text};
 ghost use Rattle.std.specs.List.{list_any};
-ghost use Rattle.cat_types.specs.declared.input.Offered.{Offered};
-ghost use Rattle.cat_types.specs.declared.work.Output.{Output};
+ghost use Rattle.cat_laws.specs.cat_types.specs.declared.input.Offered.{Offered};
+ghost use Rattle.cat_laws.specs.cat_types.specs.declared.work.Output.{Output};
 ghost use Rattle.cat_holding.specs.Mend.{AreOpen, IsReady, IsReplaced, cut_off, gone, left_by, mended};
 
 /// Where the holders were right before the rows of an origin were replaced, mending what that cuts off gives the holders

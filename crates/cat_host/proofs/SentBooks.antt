@@ -17,7 +17,7 @@ use Rattle.cat_core.specs.contracts.catalogue.Saved as Saved
 use Rattle.cat_core.specs.contracts.catalogue.Saved.TheInside as saved
 use Rattle.cat_desk.specs.contracts.command.Reply as Reply
 use Rattle.cat_desk.specs.contracts.timed.Timed as Timed
-use Rattle.cat_fed.specs.contracts.fed.Fed as Fed
+use Rattle.cat_api.specs.cat_fed.specs.contracts.fed.Fed as Fed
 use Rattle.cat_turns.specs.contracts.turns.Turns as Turns
 use Rattle.cat_shared.specs.declared.book.Named as Named
 use Rattle.cat_shared.specs.contracts.book.Book as Book
@@ -81,7 +81,7 @@ noted_send = variants_send Noted.enum (
     (search known depth 60, tt),
     (
       (search known depth 60, (search known depth 60, (search known depth 60, tt))),
-      ((search known depth 60, (search known depth 60, tt)), ((search known depth 60, tt), ((search known depth 60, (search known depth 60, tt)), (tt, tt)))),
+      ((search known depth 60, (search known depth 60, tt)), ((search known depth 60, tt), ((search known depth 60, (search known depth 60, tt)), (tt, ((search known depth 60, (search known depth 60, tt)), tt))))),
     ),
   ),
 )

@@ -1,2 +1,3 @@
 pub mod Answered
 pub mod Worked
+pub use Rattle.cat_shared

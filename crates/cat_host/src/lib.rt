@@ -22,3 +22,6 @@ pub use answering::Answering;
 pub use crew::{Crew, host};
 pub use share::Share;
 pub use working::{Part, Working};
+
+// What this crate stands on and hands on.
+pub use cat_shared;

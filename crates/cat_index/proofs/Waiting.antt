@@ -6,10 +6,10 @@ use Rattle.std.specs.FinMap.Entries.{find-put, find-where_key}
 use Rattle.std.specs.Cmp.{IsTotalOrder}
 use Rattle.std.specs.FinMap.{IsAntisymmetric}
 use Rattle.std.proofs.lemmas.Bool.Decides.{nat_tests}
-use Rattle.cat_tree.specs.Data.{Data}
-use Rattle.cat_table.specs.Rows.{without}
-use Rattle.cat_table.specs.Table.{Map, find, get, put, text_cmp, text_total, text_antisymmetric}
-use Rattle.cat_table.proofs.Tables.{same_is}
+use Rattle.cat_types.specs.cat_tree.specs.Data.{Data}
+use Rattle.cat_types.specs.cat_table.specs.Rows.{without}
+use Rattle.cat_types.specs.cat_table.specs.Table.{Map, find, get, put, text_cmp, text_total, text_antisymmetric}
+use Rattle.cat_types.specs.cat_table.proofs.Tables.{same_is}
 use Rattle.cat_index.specs.Index.{Set, Lists, has, set_at, terms_at, has_term, AreLists, AgreeBeyond, with_document}
 use Rattle.cat_index.specs.Terms.{document_terms}
 

@@ -3,10 +3,10 @@ use Rattle.std.specs.Prelude.{◌≡◌, ℕ, List, [], Bool, false, Option, Som
 use Rattle.std.specs.List.{list_any}
 use Rattle.std.specs.Ordering.{eq_by_cmp}
 use Rattle.std.specs.declared.cmp.Ordering.{Ordering}
-use Rattle.cat_tree.specs.Data.{Data}
-use Rattle.cat_table.specs.Pairs.{pair_cmp}
-use Rattle.cat_table.specs.Rows.{without}
-use Rattle.cat_table.specs.Table.{Map, find, get, put, text_cmp}
+use Rattle.cat_types.specs.cat_tree.specs.Data.{Data}
+use Rattle.cat_types.specs.cat_table.specs.Pairs.{pair_cmp}
+use Rattle.cat_types.specs.cat_table.specs.Rows.{without}
+use Rattle.cat_types.specs.cat_table.specs.Table.{Map, find, get, put, text_cmp}
 use Rattle.cat_index.specs.Terms.{Term, document_terms}
 
 -- references in order, each once

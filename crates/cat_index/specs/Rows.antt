@@ -3,9 +3,9 @@ use Rattle.std.specs.Prelude.{ℕ, List, [], ◌∷◌, ◌++◌, Bool, true, fa
 use Rattle.std.specs.Char.{to_ascii_lowercase}
 use Rattle.std.specs.Fmt.{signed_decimal}
 use Rattle.std.specs.List.{filter, list_any}
-use Rattle.cat_tree.specs.Ask.{child_of}
-use Rattle.cat_tree.specs.Data.{Data, null, flag, whole, words, list, dict, Items, no_items, item, Members, no_members, member}
-use Rattle.cat_ref.specs.Reference.{text_at}
+use Rattle.cat_types.specs.cat_tree.specs.Ask.{child_of}
+use Rattle.cat_types.specs.cat_tree.specs.Data.{Data, null, flag, whole, words, list, dict, Items, no_items, item, Members, no_members, member}
+use Rattle.cat_types.specs.cat_ref.specs.Reference.{text_at}
 
 -- a key and a value
 abbrev pub Row : Type 0

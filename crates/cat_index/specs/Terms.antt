@@ -1,7 +1,7 @@
 -- What documents are listed under, in lower case: the key of a search row, and the key with the value.
 use Rattle.std.specs.Prelude.{ℕ, List, [], ◌∷◌, Option, Some, None}
 use Rattle.std.specs.List.{flat_map}
-use Rattle.cat_tree.specs.Data.{Data}
+use Rattle.cat_types.specs.cat_tree.specs.Data.{Data}
 use Rattle.cat_index.specs.Rows.{Row, folded, document_rows}
 
 -- a key, and what a condition says behind it: nothing, or `=` and a value

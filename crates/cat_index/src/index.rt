@@ -1,15 +1,15 @@
 //! Documents by reference, with the references under each term of their search rows, and the references of those that wait.
 ghost use Rattle.std.specs.Prelude.{◌≡◌, IfOk, IfSome, [], is_ok, length, option_map, slice_get, if◌then◌else◌};
-ghost use Rattle.cat_tree.specs.View.{data_of};
-ghost use Rattle.cat_table.specs.Rows.{without};
-ghost use Rattle.cat_table.specs.Table.{get, put, text_cmp};
+ghost use Rattle.cat_types.specs.cat_tree.specs.View.{data_of};
+ghost use Rattle.cat_types.specs.cat_table.specs.Rows.{without};
+ghost use Rattle.cat_types.specs.cat_table.specs.Table.{get, put, text_cmp};
 ghost use Rattle.cat_index.specs.Index.{AgreeBeyond, AreLists};
 
-use cat_ref::reference::Ref;
-use cat_table::listing::Copied;
-use cat_table::map::Map;
-use cat_tree::text::Text;
-use cat_tree::tree::Tree;
+use cat_types::cat_ref::reference::Ref;
+use cat_types::cat_table::listing::Copied;
+use cat_types::cat_table::map::Map;
+use cat_types::cat_tree::text::Text;
+use cat_types::cat_tree::tree::Tree;
 use cat_types::node::Node;
 use std::alloc::{AllocError, Global};
 use std::marker::Model;
@@ -40,7 +40,7 @@ pub struct Index {
 impl Model for Index {
     ghost use Rattle.std.specs.Prelude.{ℕ, List};
     ghost use Rattle.std.specs.Coded.{coded_list, coded×, coded_ℕ};
-    ghost use Rattle.cat_tree.specs.Data.{Data, data_code};
+    ghost use Rattle.cat_types.specs.cat_tree.specs.Data.{Data, data_code};
 
     ghost Value = { List (List ℕ × Data) };
 

@@ -10,3 +10,7 @@
 #![tactic(auto)]
 
 pub mod index;
+
+// What this crate stands on and hands on.
+pub use cat_types;
+pub use cat_types::cat_ref;

@@ -15,3 +15,6 @@ pub mod shelf;
 pub mod text;
 
 pub use cat_types::input::{Item, Mutation};
+
+// What this crate stands on and hands on.
+pub use cat_types;

@@ -7,10 +7,10 @@ use Rattle.std.specs.List.{sum_by}
 use Rattle.std.specs.FinMap.Entries.{below_all, find-put, find-where_key, is_sorted, is_sorted-put, is_sorted-where_key, same_entries}
 use Rattle.std.proofs.Math.Nat.{min-eq_left}
 use Rattle.std.proofs.lemmas.List.Sums.{sum_by-cons}
-use Rattle.cat_tree.specs.Text.{text_of}
-use Rattle.cat_table.specs.Rows.{without}
-use Rattle.cat_table.specs.Table.{Text, Map, get, put, text_antisymmetric, text_cmp, text_total}
-use Rattle.cat_table.proofs.Tables.{same_is, same_self}
+use Rattle.cat_types.specs.cat_tree.specs.Text.{text_of}
+use Rattle.cat_types.specs.cat_table.specs.Rows.{without}
+use Rattle.cat_types.specs.cat_table.specs.Table.{Text, Map, get, put, text_antisymmetric, text_cmp, text_total}
+use Rattle.cat_types.specs.cat_table.proofs.Tables.{same_is, same_self}
 use Rattle.cat_types.specs.declared.input.Offered.{Offered}
 use Rattle.cat_items.specs.Bytes.{AreCounted, bytes_of, item_bytes}
 

@@ -3,8 +3,8 @@ use Rattle.std.specs.Prelude.{◌≡◌, ℕ, ◌<◌, ◌^◌, List, length}
 use Rattle.std.specs.declared.option.Option.{Option}
 use Rattle.std.specs.declared.option.Option.TheVariants.{None, Some}
 use Rattle.std.specs.List.{sum_by}
-use Rattle.cat_tree.specs.Text.{text_of}
-use Rattle.cat_table.specs.Table.{Text}
+use Rattle.cat_types.specs.cat_tree.specs.Text.{text_of}
+use Rattle.cat_types.specs.cat_table.specs.Table.{Text}
 use Rattle.cat_types.specs.declared.input.Offered.{Offered}
 
 -- the length of the compact text of an item's tree

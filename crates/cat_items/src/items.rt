@@ -2,17 +2,17 @@
 ghost use Rattle.std.specs.Prelude.{◌≡◌, ◌+◌, ◌^◌, [], ◌<◌, IfOk, IsTrue, if◌then◌else◌, is_ok, length, option_map};
 ghost use Rattle.std.specs.FinMap.Entries.{is_sorted};
 ghost use Rattle.std.specs.List.{sum_by};
-ghost use Rattle.cat_table.specs.Left.{items_left};
-ghost use Rattle.cat_table.specs.Rows.{without};
-ghost use Rattle.cat_table.specs.Table.{get, keys, put, text_cmp};
-ghost use Rattle.cat_tree.specs.Text.{text_of};
+ghost use Rattle.cat_types.specs.cat_table.specs.Left.{items_left};
+ghost use Rattle.cat_types.specs.cat_table.specs.Rows.{without};
+ghost use Rattle.cat_types.specs.cat_table.specs.Table.{get, keys, put, text_cmp};
+ghost use Rattle.cat_types.specs.cat_tree.specs.Text.{text_of};
 ghost use Rattle.cat_items.specs.Bytes.{bytes_of, item_bytes};
 
-use cat_ref::reference::Ref;
-use cat_table::listing::{Copied, Listing};
-use cat_table::map::Map;
-use cat_table::tree::Items;
-use cat_tree::room::size;
+use cat_types::cat_ref::reference::Ref;
+use cat_types::cat_table::listing::{Copied, Listing};
+use cat_types::cat_table::map::Map;
+use cat_types::cat_table::tree::Items;
+use cat_types::cat_tree::room::size;
 use cat_types::input::Offered;
 use cat_types::node::Node;
 use std::alloc::{AllocError, Global};
@@ -32,7 +32,7 @@ pub struct OfferedItems {
 impl Model for OfferedItems {
     ghost use Rattle.std.specs.Prelude.{List};
     ghost use Rattle.cat_types.specs.declared.input.Offered.{Offered};
-    ghost use Rattle.cat_table.specs.Table.{Text};
+    ghost use Rattle.cat_types.specs.cat_table.specs.Table.{Text};
     ghost use Rattle.cat_items.specs.Bytes.{AreCounted};
     ghost use Rattle.cat_types.specs.contracts.input.Offered.{the_row};
     ghost use Rattle.std.specs.Coded.{coded_list, coded×, coded_ℕ};

@@ -5,11 +5,11 @@ use Rattle.std.specs.declared.option.Option.{Option}
 use Rattle.std.specs.declared.option.Option.TheVariants.{None, Some}
 use Rattle.cat_commands.specs.declared.line.Line.{Line}
 use Rattle.cat_commands.specs.declared.line.Line.TheVariants as asks
-use Rattle.cat_core.specs.declared.ledger.Ledger.{Ledger}
-use Rattle.cat_desk.specs.Acts.{Acts, deed_reply, done}
-use Rattle.cat_desk.specs.Deed.{Deed}
-use Rattle.cat_desk.specs.Deed.Deed.{Mutate, ShelfPut, ShelfDrop, Forget, Finish}
-use Rattle.cat_desk.specs.declared.command.Reply.{Reply}
+use Rattle.cat_session.specs.cat_core.specs.declared.ledger.Ledger.{Ledger}
+use Rattle.cat_session.specs.cat_desk.specs.Acts.{Acts, deed_reply, done}
+use Rattle.cat_session.specs.cat_desk.specs.Deed.{Deed}
+use Rattle.cat_session.specs.cat_desk.specs.Deed.Deed.{Mutate, ShelfPut, ShelfDrop, Forget, Finish}
+use Rattle.cat_session.specs.cat_desk.specs.declared.command.Reply.{Reply}
 use Rattle.cat_loop.specs.Word.{Word, plain}
 use Rattle.cat_model.specs.Catalogue.{Rules}
 use Rattle.cat_model.specs.Given.{given}
@@ -20,8 +20,8 @@ use Rattle.cat_model.specs.declared.types.Settings.{Settings}
 use Rattle.cat_model.specs.declared.types.State.{State}
 use Rattle.cat_reach.proofs.Stepped.{unchanged}
 use Rattle.cat_reach.specs.Reach.{given_refs, reached}
-use Rattle.cat_renewed.specs.Renewed.{IsBeyond}
-use Rattle.cat_renewed.specs.declared.reached.Reached.{Reached}
+use Rattle.cat_kept_desk.specs.cat_renewed.specs.Renewed.{IsBeyond}
+use Rattle.cat_kept_desk.specs.cat_renewed.specs.declared.reached.Reached.{Reached}
 use Rattle.cat_session.specs.Carried.{Carries}
 use Rattle.cat_table.specs.Table.{Text}
 use Rattle.cat_tables.proofs.In.{none_some}

@@ -1,5 +1,5 @@
 -- What a line does to a session that is kept.
-use Rattle.std.proofs.Common.{◌≡◌, ◌⊎◌, ℕ, Bool, true, false, true≢false, if◌then◌else◌, inl, inr, List, refl, sym, ap, subst, ◌∙◌, IfOk, OnErr}
+use Rattle.std.proofs.Common.{◌≡◌, ◌≤◌, ◌++◌, [], ◌⊎◌, ℕ, Bool, true, false, not, ◌&&◌, true≢false, if◌then◌else◌, inl, inr, List, refl, sym, ap, subst, ◌∙◌, IfOk, OnErr}
 use Rattle.std.specs.declared.option.Option.{Option}
 use Rattle.std.specs.declared.option.Option.TheVariants.{None, Some}
 use Rattle.std.specs.declared.result.Result.{Result}
@@ -11,26 +11,41 @@ use Rattle.cat_commands.specs.Lines.{line_of}
 use Rattle.cat_commands.specs.declared.fault.LineFault.{LineFault}
 use Rattle.cat_commands.specs.declared.line.Line.{Line}
 use Rattle.cat_commands.specs.declared.line.Line.TheVariants as asks
-use Rattle.cat_loop.specs.Word.{Word, plain, memory, cut, unkept, AnswersLine, IsActing}
+use Rattle.cat_loop.specs.Word.{Word, plain, memory, cut, unkept, cut_unkept, AnswersLine, IsActing}
 use Rattle.cat_model.specs.Catalogue.{Rules}
 use Rattle.cat_model.specs.Reply.{next_stitch}
 use Rattle.cat_model.specs.declared.types.Order.{Order}
 use Rattle.cat_model.specs.declared.types.OrphanRule.{OrphanRule}
 use Rattle.cat_model.specs.declared.types.Settings.{Settings}
+use Rattle.cat_model.specs.declared.types.State.{State}
 use Rattle.cat_model.specs.declared.types.StitchOrder.{StitchOrder}
 use Rattle.cat_session.specs.Carried.{Carries}
 use Rattle.cat_session.specs.Replies.{IsLineRefusal}
 use Rattle.cat_commands.specs.declared.fault.LineFault.TheVariants as faults
-use Rattle.cat_store.proofs.Unstored.{put_stitch_still, refresh_still, take_still}
+use Rattle.cat_kept_desk.specs.cat_store.proofs.Begun.{first_still}
+use Rattle.cat_kept_desk.specs.cat_store.proofs.Unstored.{put_stitch_still, refresh_still, take_still}
 use Rattle.cat_tables.specs.Stored.{stored}
 use Rattle.cat_transcript.specs.Program.{program_settings, ruled_after, ruled_reply}
 use Rattle.cat_transcript.specs.Session.{after_finish, after_place, after_reading, after_result, line_fault, order_numbered, reply_to, reply_to_result, session_after, session_reply, with_stitch}
 use Rattle.cat_transcript.specs.declared.state.RuledSession.{RuledSession}
 use Rattle.cat_transcript.specs.declared.state.SessionState.{SessionState}
-use Rattle.cat_kept.specs.Carried.{CarriesKept}
-use Rattle.cat_kept.specs.Kept.{changes, kept_after, may_change, kept_reply, refused_keeper}
+use Rattle.cat_session.specs.cat_replies.specs.Events.{cut_by_keeper}
+use Rattle.cat_kept.specs.Carried.{CarriesKept, IsCut, IsRefused}
+use Rattle.cat_kept.specs.Kept.{changes, is_settle, is_single, kept_after, kept_reply, may_be_cut, may_be_refused, one_refused, refused_keeper, settle_events}
 use Rattle.cat_kept.specs.declared.state.KeptState.{KeptState}
 use Rattle.cat_kept_desk.specs.Followed.{one_more}
+
+-- ---- a settle of which just the first events were kept
+
+-- the reply has the number of these events
+pub cut_text : (rules : Rules) (old : RuledSession) (n : ℕ) (before after : List ℕ) → settle_events rules n old ≡ n → before ≡ [] → after ≡ before ++ cut_by_keeper n → after ≡ cut_by_keeper (settle_events rules n old)
+cut_text rules old n before after same none is = is ∙ (ap (λ l. l ++ cut_by_keeper n) none ∙ ap cut_by_keeper (sym same))
+
+-- the first event leaves the stored rows
+pub cut_rows : (rules : Rules) (old new : RuledSession) (n : ℕ) → n ≤ 1 → new ≡ record old { session = after_reading rules (program_settings old.orphans) (cut n) asks.Settle old.session }
+    → is_sorted text_cmp old.session.state.records ≡ true → stored old.orphans new.session.state ≡ stored old.orphans old.session.state
+cut_rows rules old new n small is sorted =
+    ap (λ (r : RuledSession). stored old.orphans r.session.state) is ∙ first_still rules (program_settings old.orphans) old.orphans old.session.now n small old.session.state sorted
 
 -- ---- a line is taken back
 
@@ -85,7 +100,7 @@ module _ (rules : Rules) (s : Settings) where
 
   -- ---- to a session that isn't kept
 
-  -- a line that wasn't kept does what one does that acts
+  -- a line that wasn't kept, or not all of it, does what one does that acts
   after_plain : (line : Line) (m : SessionState) → after_reading rules s unkept line m ≡ after_reading rules s plain line m
   after_plain (asks.Mutate p x) m = refl
   after_plain (asks.ShelfPut name text) m = refl
@@ -115,6 +130,34 @@ module _ (rules : Rules) (s : Settings) where
   reply_plain asks.Settle m = refl
   reply_plain (asks.Ask ask) m = refl
 
+  after_cut : (n : ℕ) (line : Line) (m : SessionState) → after_reading rules s (cut_unkept n) line m ≡ after_reading rules s plain line m
+  after_cut n (asks.Mutate p x) m = refl
+  after_cut n (asks.ShelfPut name text) m = refl
+  after_cut n (asks.ShelfDrop name) m = refl
+  after_cut n (asks.Refresh r) m = refl
+  after_cut n (asks.Forget r) m = refl
+  after_cut n (asks.Clock now) m = refl
+  after_cut n asks.Take m = refl
+  after_cut n (asks.Finish token) m = refl
+  after_cut n (asks.Stitch after) m = refl
+  after_cut n (asks.Place ticket) m = refl
+  after_cut n asks.Settle m = refl
+  after_cut n (asks.Ask ask) m = refl
+
+  reply_cut : (n : ℕ) (line : Line) (m : SessionState) → reply_to rules s (cut_unkept n) line m ≡ reply_to rules s plain line m
+  reply_cut n (asks.Mutate p x) m = refl
+  reply_cut n (asks.ShelfPut name text) m = refl
+  reply_cut n (asks.ShelfDrop name) m = refl
+  reply_cut n (asks.Refresh r) m = refl
+  reply_cut n (asks.Forget r) m = refl
+  reply_cut n (asks.Clock now) m = refl
+  reply_cut n asks.Take m = refl
+  reply_cut n (asks.Finish token) m = refl
+  reply_cut n (asks.Stitch after) m = refl
+  reply_cut n (asks.Place ticket) m = refl
+  reply_cut n asks.Settle m = refl
+  reply_cut n (asks.Ask ask) m = refl
+
 module _ (rules : Rules) (rule : OrphanRule) (line : Line) (old new : RuledSession) where
   -- a line that may not change the stored rows leaves them, whether memory lacked or not
   pub passed : {A E : Type 0} (came : Result A E) (items : A → List ℕ) → IfOk came (λ t. Carries rules line old new (items t)) → OnErr came (new ≡ old) → changes line ≡ false
@@ -122,7 +165,36 @@ module _ (rules : Rules) (rule : OrphanRule) (line : Line) (old new : RuledSessi
   passed (Ok t) items ok err never sorted = ap (λ (n : RuledSession). stored rule n.session.state) ok.2 ∙ still rules (program_settings old.orphans) rule ok.0 line never old.session sorted
   passed (Err e) items ok err never sorted = ap (λ (n : RuledSession). stored rule n.session.state) err
 
+-- ---- a line whose change wasn't kept
+
+-- a session that is put back to the state from before a line is as before it
+pub taken_back_is : (rules : Rules) (line : Line) (old mid new : RuledSession) (text : List ℕ) (saved : State) → Carries rules line old mid text → changes line ≡ true → saved ≡ old.session.state
+    → new ≡ record mid { session = record mid.session { state = saved } } → new ≡ old
+taken_back_is rules line old mid new text saved h may is e =
+    e ∙ ((λ i. record (h.2 i) { session = record (h.2 i).session { state = is i } }) ∙ ap (λ (m : SessionState). record old { session = m }) (back rules (program_settings old.orphans) h.0 line may old.session))
+
+-- a settle is cut, and any other line is refused
+pub lost : (rules : Rules) (line : Line) (old new : RuledSession) (text : List ℕ) (b : Bool) → b ≡ is_settle line → changes line ≡ true → (b ≡ true → IsCut rules old new text)
+    → (b ≡ false → (new ≡ old) × (text ≡ refused_keeper)) → IsRefused rules line old new text
+lost rules line old new text true is may short whole = inr (short refl, sym is)
+lost rules line old new text false is may short whole = let w = whole refl in inl (w.0, w.1, λ i. may i && not (sym is i))
+
 -- ---- what was answered
+
+-- a settle alone is one
+settle_is : (line : Line) → is_settle line ≡ true → line ≡ asks.Settle
+settle_is (asks.Mutate p x) h = absurd (true≢false (sym h))
+settle_is (asks.ShelfPut name text) h = absurd (true≢false (sym h))
+settle_is (asks.ShelfDrop name) h = absurd (true≢false (sym h))
+settle_is (asks.Refresh r) h = absurd (true≢false (sym h))
+settle_is (asks.Forget r) h = absurd (true≢false (sym h))
+settle_is (asks.Clock now) h = absurd (true≢false (sym h))
+settle_is asks.Take h = absurd (true≢false (sym h))
+settle_is (asks.Finish token) h = absurd (true≢false (sym h))
+settle_is (asks.Stitch after) h = absurd (true≢false (sym h))
+settle_is (asks.Place ticket) h = absurd (true≢false (sym h))
+settle_is asks.Settle h = refl
+settle_is (asks.Ask ask) h = absurd (true≢false (sym h))
 
 module _ (rules : Rules) (bytes : List ℕ) where
   abbrev Answered : KeptState → KeptState → List ℕ → Type 0
@@ -157,21 +229,43 @@ module _ (rules : Rules) (bytes : List ℕ) where
           kept_is _ old.refusals (e ∙ (ap (λ n. record old.ruled { session = n }) (after_plain rules s line old.ruled.session) ∙ after_is plain)) none,
           t ∙ (reply_plain rules s line old.ruled.session ∙ reply_is plain),
         )
+        by_word none (cut_unkept n) acts e t = (
+          plain,
+          tt,
+          kept_is _ old.refusals (e ∙ (ap (λ n. record old.ruled { session = n }) (after_cut rules s n line old.ruled.session) ∙ after_is plain)) none,
+          t ∙ (reply_cut rules s n line old.ruled.session ∙ reply_is plain),
+        )
 
         -- a line that was carried out is answered
         carried : new.refusals ≡ old.refusals → Carries rules line old.ruled new.ruled text → Answered old new text
         carried none h = by_word none h.0 h.1 h.2 h.3
 
-        -- and one that wasn't kept too
-        carried_kept : CarriesKept rules line old.ruled new.ruled old.refusals new.refusals text → Answered old new text
-        carried_kept (inl h) = carried h.1 h.0
-        carried_kept (inr h) =
-            let may : may_change (line_of bytes) ≡ true = ap may_change reads ∙ h.3 in (
+        -- one whose change wasn't kept too
+        refused_whole : new.ruled ≡ old.ruled → text ≡ refused_keeper → is_single line ≡ true → new.refusals ≡ one_more old.refusals → Answered old new text
+        refused_whole same says may more =
+            let read : may_be_refused (line_of bytes) ≡ true = ap may_be_refused reads ∙ may in (
               unkept,
               tt,
-              kept_is old.ruled _ h.0 h.2 ∙ ap (λ (b : Bool). if b then record old { refusals = one_more old.refusals } else record old { ruled = ruled_after rules old.ruled plain bytes }) (sym may),
-              h.1 ∙ ap (λ (b : Bool). if b then refused_keeper else ruled_reply rules old.ruled plain bytes) (sym may),
+              kept_is old.ruled _ same more ∙ ap (λ (b : Bool). if b then one_refused old.ruled old else record old { ruled = ruled_after rules old.ruled plain bytes }) (sym read),
+              says ∙ ap (λ (b : Bool). if b then refused_keeper else ruled_reply rules old.ruled plain bytes) (sym read),
             )
+
+        -- and a settle of which just the first events were kept
+        refused_rest : (h : IsCut rules old.ruled new.ruled text) → line ≡ asks.Settle → new.refusals ≡ one_more old.refusals → Answered old new text
+        refused_rest h settles more =
+            let read : may_be_cut (line_of bytes) ≡ true = ap may_be_cut reads ∙ ap is_settle settles in
+            let after : record old.ruled { session = after_reading rules s (cut h.events) asks.Settle old.ruled.session } ≡ ruled_after rules old.ruled (cut h.events) bytes
+            = ap (λ l. record old.ruled { session = after_reading rules s (cut h.events) l old.ruled.session }) (sym settles) ∙ after_is (cut h.events) in (
+              cut_unkept h.events,
+              tt,
+              kept_is (ruled_after rules old.ruled (cut h.events) bytes) _ (h.session ∙ after) more
+                  ∙ ap (λ (b : Bool). if b then one_refused (ruled_after rules old.ruled (cut h.events) bytes) old else record old { ruled = ruled_after rules old.ruled plain bytes }) (sym read),
+              h.text_is ∙ ap (λ (b : Bool). if b then cut_by_keeper (settle_events rules h.events old.ruled) else ruled_reply rules old.ruled plain bytes) (sym read),
+            )
+
+        carried_kept : CarriesKept rules line old.ruled new.ruled old.refusals new.refusals text → Answered old new text
+        carried_kept (inl h) = carried h.1 h.0
+        carried_kept (inr h) = elim h.0 [ inl k ↦ refused_whole k.0 k.1 k.2 h.1 | inr k ↦ refused_rest k.0 (settle_is line k.1) h.1 ]
 
       -- the same of whatever came of it, but for want of memory
       pub follows : {A E : Type 0} (came : Result A E) (items : A → List ℕ) → IfOk came (λ t. CarriesKept rules line old.ruled new.ruled old.refusals new.refusals (items t)) → IfOk came (λ t. Answered old new (items t))

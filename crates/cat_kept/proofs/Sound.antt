@@ -4,7 +4,7 @@ use Rattle.cat_laws.proofs.Stands.{settle_keeps}
 use Rattle.cat_laws.proofs.Steps.{step_kept}
 use Rattle.cat_loop.proofs.Keeping.{Keeps, after_lines-keeps}
 use Rattle.cat_loop.specs.Runs.{after_lines}
-use Rattle.cat_loop.specs.Word.{Word, plain, memory, cut, unkept}
+use Rattle.cat_loop.specs.Word.{Word, plain, memory, cut, unkept, cut_unkept}
 use Rattle.cat_model.specs.Catalogue.{Rules}
 use Rattle.cat_model.specs.Sound.{Sound}
 use Rattle.cat_model.specs.declared.types.Settings.{Settings}
@@ -12,9 +12,8 @@ use Rattle.cat_transcript.proofs.Kept.{after_kept}
 use Rattle.cat_transcript.specs.Program.{program_settings, ruled_after}
 use Rattle.cat_transcript.specs.Session.{session_after}
 use Rattle.cat_commands.specs.Lines.{line_of}
-use Rattle.cat_kept.specs.Kept.{kept_after, may_change}
+use Rattle.cat_kept.specs.Kept.{kept_after, may_be_cut, may_be_refused, one_refused}
 use Rattle.cat_kept.specs.declared.state.KeptState.{KeptState}
-use Rattle.cat_kept_desk.specs.Followed.{one_more}
 
 module _ (rules : Rules) where
   abbrev IsSound : KeptState → Type 0
@@ -29,10 +28,15 @@ module _ (rules : Rules) where
   keeps m plain line sound = acted m plain line sound
   keeps m memory line sound = acted m memory line sound
   keeps m (cut n) line sound = acted m (cut n) line sound
-  keeps m unkept line sound = go (may_change (line_of line))
+  keeps m unkept line sound = go (may_be_refused (line_of line))
     where
-      go : (b : Bool) → IsSound (if b then record m { refusals = one_more m.refusals } else record m { ruled = ruled_after rules m.ruled plain line })
+      go : (b : Bool) → IsSound (if b then one_refused m.ruled m else record m { ruled = ruled_after rules m.ruled plain line })
       go true = sound
+      go false = acted m plain line sound
+  keeps m (cut_unkept n) line sound = go (may_be_cut (line_of line))
+    where
+      go : (b : Bool) → IsSound (if b then one_refused (ruled_after rules m.ruled (cut n) line) m else record m { ruled = ruled_after rules m.ruled plain line })
+      go true = acted m (cut n) line sound
       go false = acted m plain line sound
 
   pub lines_sound : (m : KeptState) (lines : List (List ℕ)) (words : List Word) → IsSound m → IsSound (after_lines (kept_after rules) m lines words)

@@ -1,13 +1,29 @@
 -- What the code of a kept session does with a line.
 use Rattle.std.specs.Prelude.{◌≡◌, ◌⊎◌, true, List, ℕ}
 use Rattle.cat_commands.specs.declared.line.Line.{Line}
+use Rattle.cat_commands.specs.declared.line.Line.TheVariants as asks
+use Rattle.cat_loop.specs.Word.{cut}
 use Rattle.cat_model.specs.Catalogue.{Rules}
 use Rattle.cat_session.specs.Carried.{Carries}
+use Rattle.cat_session.specs.cat_replies.specs.Events.{cut_by_keeper}
+use Rattle.cat_transcript.specs.Program.{program_settings}
+use Rattle.cat_transcript.specs.Session.{after_reading}
 use Rattle.cat_transcript.specs.declared.state.RuledSession.{RuledSession}
-use Rattle.cat_kept.specs.Kept.{changes, refused_keeper}
+use Rattle.cat_kept.specs.Kept.{is_settle, is_single, refused_keeper, settle_events}
 use Rattle.cat_kept_desk.specs.Followed.{one_more}
 
--- a line was carried out; or its change wasn't kept, which is counted, and the session is as before; and this is the reply
+-- a settle was cut after so many events, since what follows them wasn't kept: just these stand, and this is the reply
+pub record IsCut (rules : Rules) (old new : RuledSession) (text : List ℕ) : Type 0 where
+  pub events : ℕ
+  pub session : new ≡ record old { session = after_reading rules (program_settings old.orphans) (cut events) asks.Settle old.session }
+  pub text_is : text ≡ cut_by_keeper (settle_events rules events old)
+
+-- a line's change wasn't kept, and the session is as before; or of a settle just the first events were; and this is the reply
+abbrev pub IsRefused : Rules → Line → RuledSession → RuledSession → List ℕ → Type 0
+IsRefused rules line old new text =
+    ((new ≡ old) × (text ≡ refused_keeper) × (is_single line ≡ true)) ⊎ (IsCut rules old new text × (is_settle line ≡ true))
+
+-- a line was carried out; or its change wasn't kept, or not all of it, which is counted; and this is the reply
 abbrev pub CarriesKept : Rules → Line → RuledSession → RuledSession → ℕ → ℕ → List ℕ → Type 0
 CarriesKept rules line old new refusals refusals' text =
-    (Carries rules line old new text × (refusals' ≡ refusals)) ⊎ ((new ≡ old) × (text ≡ refused_keeper) × (refusals' ≡ one_more refusals) × (changes line ≡ true))
+    (Carries rules line old new text × (refusals' ≡ refusals)) ⊎ (IsRefused rules line old new text × (refusals' ≡ one_more refusals))

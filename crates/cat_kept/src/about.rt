@@ -3,14 +3,14 @@ ghost use Rattle.std.specs.Prelude.{◌≡◌, IfOk, option_map};
 ghost use Rattle.cat_kept.specs.About.{IsAbout, IsFound, entity_about};
 
 use cat_commands::line::Line;
-use cat_core::catalogue::Saved;
 use cat_hold::layers::Layers;
+use cat_kept_desk::cat_reached::reached::{reached_from, refs_of};
+use cat_kept_desk::cat_reached::seeds::mutation_seeds;
+use cat_kept_desk::cat_renewed::reached::Reached;
 use cat_model::types::State;
-use cat_reached::reached::{reached_from, refs_of};
-use cat_reached::seeds::mutation_seeds;
 use cat_ref::reference::Ref;
-use cat_renewed::reached::Reached;
 use cat_session::Session;
+use cat_session::cat_core::catalogue::Saved;
 use cat_table::listing::Copied;
 use cat_tree::text::Text;
 use std::alloc::{AllocError, Global};

@@ -1,30 +1,31 @@
 //! A session, and its store.
-ghost use Rattle.std.specs.Prelude.{◌≡◌, ◌≢◌, ◌≤◌, true, false, IfOk, OnErr};
+ghost use Rattle.std.specs.Prelude.{◌≡◌, ◌≢◌, ◌≤◌, [], true, false, IfOk, OnErr, vec_capacity};
 ghost use Rattle.cat_commands.specs.Ready.{IsReady};
 ghost use Rattle.cat_io.specs.Causes.{Rose};
 ghost use Rattle.cat_keeper.specs.Answers.{Are};
 ghost use Rattle.cat_keeper.specs.declared.keeper.Committed.TheVariants.{Kept};
 ghost use Rattle.cat_kept.specs.About.{IsReachedFrom};
-ghost use Rattle.cat_kept.specs.Carried.{CarriesKept};
-ghost use Rattle.cat_kept.specs.Kept.{changes, kept_after, kept_reply, refused_keeper};
+ghost use Rattle.cat_kept.specs.Carried.{CarriesKept, IsCut};
+ghost use Rattle.cat_kept.specs.Kept.{changes, is_settle, kept_after, kept_reply, refused_keeper};
 ghost use Rattle.cat_kept_desk.specs.Followed.{IsFollowed};
 ghost use Rattle.cat_loop.specs.Word.{AnswersLine};
 ghost use Rattle.cat_model.specs.Sound.{AreOffers, AreSmall};
-ghost use Rattle.cat_renewed.specs.Renewed.{IsBeyond};
-ghost use Rattle.cat_renewed.specs.declared.reached.Reached.{Reached};
+ghost use Rattle.cat_kept_desk.specs.cat_renewed.specs.Renewed.{IsBeyond};
+ghost use Rattle.cat_kept_desk.specs.cat_renewed.specs.declared.reached.Reached.{Reached};
 ghost use Rattle.cat_session.specs.Carried.{Carries};
 ghost use Rattle.cat_tables.specs.Stored.{stored, texts_of};
 
 use crate::about::{About, line_about, reached};
 use cat_commands::line::Line;
 use cat_commands::read::read_line;
-use cat_core::catalogue::Saved;
 use cat_hold::layers::Layers;
 use cat_keeper::keeper::{Committed, Keeper};
+use cat_kept_desk::cat_store::store::Store;
 use cat_loop::Machine;
 use cat_model::types::State;
 use cat_session::Session;
-use cat_store::store::Store;
+use cat_session::cat_core::catalogue::Saved;
+use cat_session::cat_replies::events::push_cut_by_keeper;
 use std::alloc::{AllocError, Global};
 use std::marker::Model;
 
@@ -54,6 +55,9 @@ impl<L: Layers, K: Keeper> Model for KeptSession<L, K> {
     ghost invariant = { λ a. IsFollowed (K.tables a.store.place a.store.keeper) a.store.orphans a.store.rows a.session.orphans a.session.session.state × (a.refusals ≤ K.faults a.store.keeper) };
 }
 
+// The most bytes of the reply to a settle, and some.
+const ROOM: usize = 128;
+
 // The reply to a line whose change wasn't kept.
 fn refusal(alloc: Global) -> Result<Vec<u8>, AllocError>
     ensures { IfOk result (λ text. text.items ≡ refused_keeper) }
@@ -81,6 +85,13 @@ fn may_change(line: &Line) -> bool
     }
 }
 
+// Whether a line is a settle.
+fn is_settle(line: &Line) -> bool
+    ensures { result ≡ is_settle line.now }
+{
+    matches!(line, Line::Settle)
+}
+
 // Carries out a line that may not change the stored rows.
 fn pass<L: Layers>(session: &mut Session<L>, line: Line) -> Result<Vec<u8>, AllocError>
     requires ready { IsReady line }
@@ -94,11 +105,13 @@ fn pass<L: Layers>(session: &mut Session<L>, line: Line) -> Result<Vec<u8>, Allo
     session.carry_out(line)
 }
 
-// What a line is answered where its change is kept and where it isn't, and what the catalogue held before it.
+// What a line is answered where its change is kept and where it isn't, room for what a settle is answered that isn't kept, and what the catalogue held
+// before it.
 #[derive(Drop)]
 struct Carried<L: Layers> {
     text: Vec<u8>,
     refused: Vec<u8>,
+    room: Vec<u8>,
     saved: Saved<L>,
 }
 
@@ -111,15 +124,19 @@ fn carry<L: Layers>(
     requires { IsReady line }
     ensures text { IfOk result (λ x. Carries L.rules line session.old session.new x.text.items) }
     ensures refused { IfOk result (λ x. x.refused.items ≡ refused_keeper) }
+    ensures room { IfOk result (λ x. 128 ≤ vec_capacity x.room) }
+    ensures empty { IfOk result (λ x. x.room.items ≡ []) }
     ensures saved { IfOk result (λ x. x.saved ≡ session.old.session.state) }
     ensures err { OnErr result (session.new ≡ session.old) }
 {
     let refused = refusal(alloc)?;
+    let room = Vec::with_capacity(alloc, ROOM)?;
     let saved = session.saved()?;
     match session.carry_out(line) {
         Ok(text) => Ok(Carried {
             text,
             refused,
+            room,
             saved,
         }),
         Err(_) => {
@@ -156,6 +173,44 @@ fn keep<L: Layers, K: Keeper>(
     }
 }
 
+// Of a settle whose change wasn't kept the first event alone is done, which leaves the stored rows as they are, and the room for its reply is filled.
+fn cut_short<L: Layers>(session: &mut Session<L>, mut room: Vec<u8>) -> Vec<u8>
+    requires room { 128 ≤ vec_capacity room }
+    requires empty { room.items ≡ [] }
+    ensures cut { IsCut L.rules session.old session.new result.items }
+    ensures rows { stored session.old.orphans session.new.session.state ≡ stored session.old.orphans session.old.session.state }
+    ensures rule { session.new.orphans ≡ session.old.orphans }
+{
+    let _state = session.view();
+    let events = session.settle_within(1);
+    match push_cut_by_keeper(&mut room, events) {
+        Ok(()) => room,
+        Err(_) => unreachable!(),
+    }
+}
+
+// What is answered to a line whose change wasn't kept, before which the session stands again.
+fn unkept<L: Layers>(
+    session: &mut Session<L>,
+    is_settle: bool,
+    refused: Vec<u8>,
+    room: Vec<u8>,
+) -> Vec<u8>
+    requires refused { refused.items ≡ refused_keeper }
+    requires room { 128 ≤ vec_capacity room }
+    requires empty { room.items ≡ [] }
+    ensures cut { is_settle ≡ true → IsCut L.rules session.old session.new result.items }
+    ensures whole { is_settle ≡ false → (session.new ≡ session.old) × (result.items ≡ refused_keeper) }
+    ensures rows { stored session.old.orphans session.new.session.state ≡ stored session.old.orphans session.old.session.state }
+    ensures rule { session.new.orphans ≡ session.old.orphans }
+{
+    if is_settle {
+        cut_short(session, room)
+    } else {
+        refused
+    }
+}
+
 // Carries out a line that may change the stored rows, and has the store follow. For want of memory all is as before.
 fn follow<L: Layers, K: Keeper>(
     alloc: Global,
@@ -176,9 +231,11 @@ fn follow<L: Layers, K: Keeper>(
 {
     let _before = session.sound_state();
     let about = line_about(alloc, session, &line)?;
+    let is_settle = is_settle(&line);
     let Carried {
         text,
         refused,
+        room,
         saved,
     } = carry(alloc, session, line)?;
     match keep(alloc, store, about, &saved, session.sound_state()) {
@@ -189,7 +246,7 @@ fn follow<L: Layers, K: Keeper>(
         Committed::Failed => {
             session.put_back(saved);
             *refusals = refusals.saturating_add(1);
-            Ok(refused)
+            Ok(unkept(session, is_settle, refused, room))
         }
         Committed::NoMemory => {
             session.put_back(saved);

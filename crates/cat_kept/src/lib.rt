@@ -1,8 +1,9 @@
 //! Sessions whose catalogue is kept in a store.
 //!
 //! A `KeptSession` is a session over a catalogue, with the store that follows it. What a line changes is committed as one batch before the
-//! line is answered; a line whose change the keeper refuses is answered `refused keeper`, and all is as before it. A settle is one change, for which all
-//! rows are made and compared; for any other line only those are that it reached (cat_reached).
+//! line is answered; a line whose change the keeper refuses is answered `refused keeper`, and all is as before it. A settle is committed as one batch, for
+//! which all rows are made and compared; where the keeper refuses it, it is cut behind its first event, which changes no stored row, and answered
+//! `cut 1 keeper`. For any other line only those rows are made that it reached (cat_reached).
 //!
 //! It stands on cat_session for lines, on cat_store for the store, and on cat_kept_desk for what it means that a store follows a state. It carries the
 //! promise that between two lines a keeper that tells its tables holds those of the catalogue's state, and that the replies are those of the abstract

@@ -1,20 +1,20 @@
 -- A catalogue that isn't kept never answers by the keeper's fault.
-use Rattle.std.proofs.Common.{◌≡◌, ℕ, true, false, refl, sym, ap, ◌∙◌, true≢false}
+use Rattle.std.proofs.Common.{◌≡◌, ℕ, true, false, refl, sym, ap, ◌∙◌, true≢false, inl, inr}
 use Rattle.std.specs.declared.option.Option.{Option}
 use Rattle.std.specs.declared.option.Option.TheVariants.{None, Some}
 use Rattle.std.specs.declared.result.Result.{Result}
 use Rattle.std.specs.declared.result.Result.TheVariants.{Ok, Err}
-use Rattle.cat_core.specs.Answer.{core_fault, stop_answer}
-use Rattle.cat_core.specs.declared.fault.CoreFault.{CoreFault}
-use Rattle.cat_core.specs.declared.fault.CoreFault.TheVariants as core
-use Rattle.cat_core.specs.declared.fault.Cut.{Cut as CutSettle}
-use Rattle.cat_core.specs.declared.ledger.Ledger.{Ledger}
-use Rattle.cat_desk.specs.Acts.{Acts, answered, deed_reply, event_reply, or_refused, settle_reply, settled_as}
-use Rattle.cat_desk.specs.Deed.{Deed}
-use Rattle.cat_desk.specs.Deed.Deed.{Mutate, ShelfPut, ShelfDrop, Refresh, Forget, ForgetNumber, Take, Finish, TakeStitch, PutStitch, Settle}
-use Rattle.cat_desk.specs.declared.command.Reply.{Reply}
-use Rattle.cat_desk.specs.declared.command.Reply.TheVariants as replies
-use Rattle.cat_loop.specs.Word.{Word, plain, memory, cut, unkept}
+use Rattle.cat_spare.specs.cat_core.specs.Answer.{core_fault, stop_answer}
+use Rattle.cat_spare.specs.cat_core.specs.declared.fault.CoreFault.{CoreFault}
+use Rattle.cat_spare.specs.cat_core.specs.declared.fault.CoreFault.TheVariants as core
+use Rattle.cat_spare.specs.cat_core.specs.declared.fault.Cut.{Cut as CutSettle}
+use Rattle.cat_spare.specs.cat_core.specs.declared.ledger.Ledger.{Ledger}
+use Rattle.cat_spare.specs.cat_desk.specs.Acts.{Acts, answered, deed_reply, event_reply, or_refused, settle_reply, settled_as}
+use Rattle.cat_spare.specs.cat_desk.specs.Deed.{Deed}
+use Rattle.cat_spare.specs.cat_desk.specs.Deed.Deed.{Mutate, ShelfPut, ShelfDrop, Refresh, Forget, ForgetNumber, Take, Finish, TakeStitch, PutStitch, Settle}
+use Rattle.cat_spare.specs.cat_desk.specs.declared.command.Reply.{Reply}
+use Rattle.cat_spare.specs.cat_desk.specs.declared.command.Reply.TheVariants as replies
+use Rattle.cat_loop.specs.Word.{Word, plain, memory, cut, unkept, cut_unkept}
 use Rattle.cat_model.specs.Catalogue.{Rules}
 use Rattle.cat_model.specs.Reply.{acted, finished, placed, taken}
 use Rattle.cat_model.specs.Settle.{try_settle}
@@ -26,7 +26,9 @@ use Rattle.cat_model.specs.declared.types.Fault.TheVariants as model
 use Rattle.cat_model.specs.declared.types.Progress.{Progress}
 use Rattle.cat_model.specs.declared.types.Settings.{Settings}
 use Rattle.cat_model.specs.declared.types.State.{State}
-use Rattle.cat_kept_desk.specs.Deeds.{is_keeper, is_lost}
+use Rattle.cat_kept_desk.specs.Deeds.{IsLost, is_keeper, is_lost, is_settle}
+use Rattle.cat_model.specs.declared.types.Stop.{Stop}
+use Rattle.cat_model.specs.declared.types.Stop.TheVariants.{Refused as StopRefused, Limit}
 
 others : (f : Fault) → is_keeper (core_fault f) ≡ false
 others (model.OldSerial n) = refl
@@ -38,12 +40,13 @@ refused : (v : Option Fault) (y : Reply) → is_lost y ≡ false → is_lost (or
 refused None y h = h
 refused (Some f) y h = others f
 
-settled : (r : Result Counts CutSettle) → is_lost (settled_as r) ≡ false
-settled (Ok counts) = refl
-settled (Err short) = refl
+stopped : (p : Progress) (v : Option Stop) → is_lost (settled_as (stop_answer p v)) ≡ false
+stopped p None = refl
+stopped p (Some (StopRefused f)) = others f
+stopped p (Some Limit) = refl
 
 settles : (limit : Option ℕ) (p : Progress) → is_lost (settle_reply limit p) ≡ false
-settles None p = settled (stop_answer p p.stop)
+settles None p = stopped p p.stop
 settles (Some n) p = refl
 
 module _ (rules : Rules) (s : Settings) (now : ℕ) (m : State) where
@@ -68,6 +71,7 @@ module _ (rules : Rules) (s : Settings) (now : ℕ) (m : State) where
   worded memory d = refl
   worded (cut n) d = whole (Some n) d
   worded unkept d = whole None d
+  worded (cut_unkept n) d = whole None d
 
 pub acts_kept : (rules : Rules) (now : ℕ) (d : Deed) (old new : Ledger) (reply : Reply) → Acts rules now d old new reply → is_lost reply ≡ false
 acts_kept rules now d old new reply acts = ap is_lost acts.answer ∙ worded rules old.settings now old.state acts.word d
@@ -75,22 +79,21 @@ acts_kept rules now d old new reply acts = ap is_lost acts.answer ∙ worded rul
 pub acts_never : {A : Type 0} (rules : Rules) (now : ℕ) (d : Deed) (old new : Ledger) (reply : Reply) → Acts rules now d old new reply → reply ≡ replies.Refused core.Keeper → A
 acts_never rules now d old new reply acts is = absurd (true≢false (sym (ap is_lost is) ∙ acts_kept rules now d old new reply acts))
 
-keeper_is : (f : CoreFault) → is_keeper f ≡ true → f ≡ core.Keeper
-keeper_is (core.OldSerial n) h = absurd (true≢false (sym h))
-keeper_is core.NotFound h = absurd (true≢false (sym h))
-keeper_is (core.TooLarge n) h = absurd (true≢false (sym h))
-keeper_is (core.Spent c) h = absurd (true≢false (sym h))
-keeper_is core.Keeper h = refl
-keeper_is core.NoMemory h = absurd (true≢false (sym h))
+-- what wasn't kept, or not all of it, is answered by the keeper's fault
+pub lost_is : (rules : Rules) (now : ℕ) (d : Deed) (old new : Ledger) (reply : Reply) → IsLost rules now d old new reply → is_lost reply ≡ true
+lost_is rules now d old new reply (inl h) = ap is_lost h.answer
+lost_is rules now d old new reply (inr h) = ap is_lost h.answer
 
--- what says that a deed wasn't kept is the keeper's fault
-pub lost_is : (reply : Reply) → is_lost reply ≡ true → reply ≡ replies.Refused core.Keeper
-lost_is (replies.Mutated x) h = absurd (true≢false (sym h))
-lost_is replies.Changed h = absurd (true≢false (sym h))
-lost_is (replies.Taken x) h = absurd (true≢false (sym h))
-lost_is (replies.Finished x) h = absurd (true≢false (sym h))
-lost_is (replies.StitchTaken x) h = absurd (true≢false (sym h))
-lost_is (replies.Placed x) h = absurd (true≢false (sym h))
-lost_is (replies.Settled x) h = absurd (true≢false (sym h))
-lost_is (replies.Cut x) h = absurd (true≢false (sym h))
-lost_is (replies.Refused f) h = ap replies.Refused (keeper_is f h)
+-- a settle alone is one
+pub settle_is : (d : Deed) → is_settle d ≡ true → d ≡ Settle
+settle_is (Mutate p x) h = absurd (true≢false (sym h))
+settle_is (ShelfPut name text) h = absurd (true≢false (sym h))
+settle_is (ShelfDrop name) h = absurd (true≢false (sym h))
+settle_is (Refresh r) h = absurd (true≢false (sym h))
+settle_is (Forget r) h = absurd (true≢false (sym h))
+settle_is (ForgetNumber number) h = absurd (true≢false (sym h))
+settle_is Take h = absurd (true≢false (sym h))
+settle_is (Finish order) h = absurd (true≢false (sym h))
+settle_is (TakeStitch after) h = absurd (true≢false (sym h))
+settle_is (PutStitch order) h = absurd (true≢false (sym h))
+settle_is Settle h = refl

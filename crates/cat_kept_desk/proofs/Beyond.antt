@@ -2,28 +2,28 @@
 use Rattle.std.proofs.Common.{◌≡◌, ℕ, false, List, [], refl, sym, ap, subst, ◌∙◌}
 use Rattle.std.specs.declared.option.Option.{Option}
 use Rattle.std.specs.declared.option.Option.TheVariants.{None, Some}
-use Rattle.cat_core.specs.declared.ledger.Ledger.{Ledger}
-use Rattle.cat_desk.specs.Acts.{Acts, after_deed, done}
-use Rattle.cat_desk.specs.Deed.{Deed}
-use Rattle.cat_desk.specs.Deed.Deed.{Mutate, ShelfPut, ShelfDrop, Refresh, Forget, ForgetNumber, Take, Finish, TakeStitch, PutStitch, Settle}
-use Rattle.cat_desk.specs.declared.command.Reply.{Reply}
-use Rattle.cat_loop.specs.Word.{Word, plain, memory, cut, unkept}
+use Rattle.cat_spare.specs.cat_core.specs.declared.ledger.Ledger.{Ledger}
+use Rattle.cat_spare.specs.cat_desk.specs.Acts.{Acts, after_deed, done}
+use Rattle.cat_spare.specs.cat_desk.specs.Deed.{Deed}
+use Rattle.cat_spare.specs.cat_desk.specs.Deed.Deed.{Mutate, ShelfPut, ShelfDrop, Refresh, Forget, ForgetNumber, Take, Finish, TakeStitch, PutStitch, Settle}
+use Rattle.cat_spare.specs.cat_desk.specs.declared.command.Reply.{Reply}
+use Rattle.cat_loop.specs.Word.{Word, plain, memory, cut, unkept, cut_unkept}
 use Rattle.cat_model.specs.Catalogue.{Ref, Rules}
 use Rattle.cat_model.specs.Sound.{Sound}
 use Rattle.cat_model.specs.Step.{ref_at, step}
 use Rattle.cat_model.specs.Step.Event.{Mutate as Mutated, ShelfPut as PutOnShelf, ShelfDrop as DroppedFromShelf, Refresh as Refreshed, Forget as Forgotten, ForgetNumber as NumberForgotten, Take as Taken, Finish as Finished, PutStitch as StitchPut}
 use Rattle.cat_model.specs.declared.types.Settings.{Settings}
 use Rattle.cat_model.specs.declared.types.State.{State}
-use Rattle.cat_reach.proofs.Inputs.{drop_inputs, inputs_stay, put_inputs}
-use Rattle.cat_reach.proofs.Mutated.{mutate_inputs, mutate_reaches}
-use Rattle.cat_reach.proofs.Nothing.{put_stitch_reaches, refresh_reaches, shelf_drop_reaches, shelf_put_reaches, take_reaches}
-use Rattle.cat_reach.proofs.Own.{finish_reaches, forget_number_reaches, forget_reaches, no_number}
-use Rattle.cat_reach.proofs.Stepped.{unchanged}
-use Rattle.cat_reach.specs.Reach.{AreSameBeyond, AreSameInputs, AreSameProvidersBut, AreSameTextsBut}
-use Rattle.cat_renewed.specs.Renewed.{IsBeyond, is_it}
-use Rattle.cat_renewed.specs.declared.reached.Reached.{Reached}
+use Rattle.cat_reached.specs.cat_reach.proofs.Inputs.{drop_inputs, inputs_stay, put_inputs}
+use Rattle.cat_reached.specs.cat_reach.proofs.Mutated.{mutate_inputs, mutate_reaches}
+use Rattle.cat_reached.specs.cat_reach.proofs.Nothing.{put_stitch_reaches, refresh_reaches, shelf_drop_reaches, shelf_put_reaches, take_reaches}
+use Rattle.cat_reached.specs.cat_reach.proofs.Own.{finish_reaches, forget_number_reaches, forget_reaches, no_number}
+use Rattle.cat_reached.specs.cat_reach.proofs.Stepped.{unchanged}
+use Rattle.cat_reached.specs.cat_reach.specs.Reach.{AreSameBeyond, AreSameInputs, AreSameProvidersBut, AreSameTextsBut}
+use Rattle.cat_store.specs.cat_renewed.specs.Renewed.{IsBeyond, is_it}
+use Rattle.cat_store.specs.cat_renewed.specs.declared.reached.Reached.{Reached}
 use Rattle.cat_table.specs.Table.{Text, get}
-use Rattle.cat_tables.proofs.In.{none_some, same_some}
+use Rattle.cat_store.specs.cat_tables.proofs.In.{none_some, same_some}
 use Rattle.cat_kept_desk.specs.Reached.{IsReached, provider_reached, refs_from, refs_reached, text_reached}
 
 -- what holds beyond these references and of inputs, as what was reached has it
@@ -91,6 +91,7 @@ module _ (rules : Rules) (s : Settings) (now : ℕ) (m : State) (sound : Sound r
   worded memory d refs e = still refs (provider_reached d) (text_reached d) m
   worded (cut k) d refs e = reaches (Some k) d refs e
   worded unkept d refs e = reaches None d refs e
+  worded (cut_unkept i) d refs e = reaches None d refs e
 
 -- beyond what a deed reached nothing that is stored has changed
 pub deed_reaches : (rules : Rules) (now : ℕ) (d : Deed) (old new : Ledger) (reply : Reply) → Acts rules now d old new reply → Sound rules old.state → (x : Reached) → IsReached d old.state new.state x → IsBeyond x old.state new.state

@@ -2,3 +2,4 @@ pub mod Answered
 pub mod Deeds
 pub mod Followed
 pub mod Beyond
+pub mod Lost

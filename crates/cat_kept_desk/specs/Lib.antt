@@ -1,3 +1,8 @@
 pub mod Followed
 pub mod Deeds
 pub mod Reached
+pub use Rattle.cat_fed
+pub use Rattle.cat_reached
+pub use Rattle.cat_store.specs.cat_renewed
+pub use Rattle.cat_store.specs.cat_reopened
+pub use Rattle.cat_store

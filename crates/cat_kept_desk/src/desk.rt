@@ -1,42 +1,42 @@
 //! A desk whose catalogue is kept in a store.
 ghost use Rattle.std.specs.Prelude.{◌≡◌, ◌≢◌, ◌<◌, ◌≤◌, ◌++◌, ◌^◌, List, ℕ, false, true};
-ghost use Rattle.cat_desk.specs.Acts.{Acts};
-ghost use Rattle.cat_desk.specs.Asks.{AsksOnce};
-ghost use Rattle.cat_desk.specs.Deed.{deed_of};
+ghost use Rattle.cat_spare.specs.cat_desk.specs.Acts.{Acts};
+ghost use Rattle.cat_spare.specs.cat_desk.specs.Asks.{AsksOnce};
+ghost use Rattle.cat_spare.specs.cat_desk.specs.Deed.{deed_of};
 ghost use Rattle.cat_fed.specs.Told.{Tells};
 ghost use Rattle.cat_feed.specs.Feed.{begun};
 ghost use Rattle.cat_io.specs.Causes.{Rose};
 ghost use Rattle.cat_io.specs.Clock.{CountsReading};
-ghost use Rattle.cat_kept_desk.specs.Deeds.{KeptActs, leaves_rows};
+ghost use Rattle.cat_kept_desk.specs.Deeds.{IsLost, KeptActs, is_lost, is_settle, leaves_rows};
 ghost use Rattle.cat_keeper.specs.Answers.{Are};
 ghost use Rattle.cat_keeper.specs.declared.keeper.Committed.TheVariants.{Kept};
 ghost use Rattle.cat_kept_desk.specs.Followed.{IsFollowed};
 ghost use Rattle.cat_kept_desk.specs.Reached.{IsReached};
 ghost use Rattle.cat_spare.specs.Spare.{IsSpare};
 ghost use Rattle.cat_model.specs.Sound.{AreOffers, AreSmall};
-ghost use Rattle.cat_renewed.specs.Renewed.{IsBeyond};
-ghost use Rattle.cat_renewed.specs.declared.reached.Reached.{Reached};
-ghost use Rattle.cat_tables.specs.Stored.{stored, texts_of};
+ghost use Rattle.cat_store.specs.cat_renewed.specs.Renewed.{IsBeyond};
+ghost use Rattle.cat_store.specs.cat_renewed.specs.declared.reached.Reached.{Reached};
+ghost use Rattle.cat_store.specs.cat_tables.specs.Stored.{stored, texts_of};
 
 use crate::reaching::reached;
-use cat_core::catalogue::{Catalogue, Done, Saved, Stitched};
-use cat_core::fault::CoreFault;
-use cat_desk::asks::{prepare, write_ask};
-use cat_desk::command::{Asked, Command, Reply};
-use cat_desk::desk::Desk;
-use cat_desk::timed::act;
-use cat_events::given::serial_of;
-use cat_events::mutation::last_serial;
 use cat_fed::desk::{FeedAnswer, FeedDesk};
 use cat_fed::fed::tell;
 use cat_feed::change::Since;
 use cat_feed::feed::Feed;
-use cat_hold::layers::Layers;
 use cat_io::Clock;
 use cat_keeper::keeper::{Committed, Keeper};
 use cat_model::types::State;
 use cat_query::ask::Ask;
+use cat_spare::cat_core::catalogue::{Catalogue, Done, Saved, Stitched};
+use cat_spare::cat_core::fault::{CoreFault, Cut};
+use cat_spare::cat_desk::asks::{prepare, write_ask};
+use cat_spare::cat_desk::command::{Asked, Command, Reply};
+use cat_spare::cat_desk::desk::Desk;
+use cat_spare::cat_desk::timed::act;
 use cat_spare::spare::{bring_up, brought_up, taken};
+use cat_store::cat_events::given::serial_of;
+use cat_store::cat_events::mutation::last_serial;
+use cat_store::cat_hold::layers::Layers;
 use cat_store::store::Store;
 use std::alloc::Global;
 
@@ -148,7 +148,7 @@ fn pass<L: Layers>(
     requires leaves { leaves_rows (deed_of command.now) catalogue.old.state ≡ true }
     requires spared { IsSpare spare.old catalogue.old.state }
     ensures acts { Acts L.rules now (deed_of command.now) catalogue.old catalogue.new result }
-    ensures never { result ≢ Reply.Refused CoreFault.Keeper }
+    ensures never { is_lost result ≡ false }
     ensures rows { stored catalogue.old.settings.orphans catalogue.new.state ≡ stored catalogue.old.settings.orphans catalogue.old.state }
     ensures spared { IsSpare spare.new catalogue.new.state }
 {
@@ -185,7 +185,53 @@ fn keep<L: Layers, K: Keeper>(
     }
 }
 
-// Does what a command says, and has the store follow. Where the keeper fails, which is counted, or memory lacks, all is as before.
+// Whether a command is a settle.
+fn is_settle<L: Layers>(command: &Command<Done<'_, L>, Stitched<'_, L>>) -> bool
+    ensures { result ≡ is_settle (deed_of command.now) }
+{
+    match command {
+        Command::Settle => true,
+        Command::Mutate(..)
+        | Command::ShelfPut(..)
+        | Command::ShelfDrop(_)
+        | Command::Refresh(_)
+        | Command::Forget(_)
+        | Command::ForgetNumber(_)
+        | Command::Take
+        | Command::Finish(_)
+        | Command::TakeStitch(_)
+        | Command::PutStitch(_) => false,
+    }
+}
+
+// What is answered to a command whose change wasn't kept, before which the catalogue stands again. Of a settle the first event alone is done, which
+// leaves the stored rows as they are.
+fn unkept<L: Layers>(
+    alloc: Global,
+    catalogue: &mut Catalogue<L>,
+    command: &Command<Done<'_, L>, Stitched<'_, L>>,
+    now: u64,
+) -> Reply
+    requires now { now < 2 ^ 53 }
+    requires changes { leaves_rows (deed_of command.now) catalogue.old.state ≡ false }
+    ensures lost { IsLost L.rules now (deed_of command.now) catalogue.old catalogue.new result }
+    ensures rows { stored catalogue.old.settings.orphans catalogue.new.state ≡ stored catalogue.old.settings.orphans catalogue.old.state }
+    ensures settings { catalogue.new.settings ≡ catalogue.old.settings }
+{
+    let _state = catalogue.view();
+    if is_settle(command) {
+        let events = catalogue.settle_within(alloc, now, 1);
+        Reply::Cut(Cut {
+            events,
+            fault: CoreFault::Keeper,
+        })
+    } else {
+        Reply::Refused(CoreFault::Keeper)
+    }
+}
+
+// Does what a command says, and has the store follow. Where the keeper fails, which is counted, or memory lacks, all is as before, but for the first event
+// of a settle that wasn't kept.
 fn follow<L: Layers, K: Keeper>(
     alloc: Global,
     catalogue: &mut Catalogue<L>,
@@ -201,7 +247,7 @@ fn follow<L: Layers, K: Keeper>(
     requires spared { IsSpare spare.old catalogue.old.state }
     ensures acts { KeptActs L.rules now (deed_of command.now) catalogue.old catalogue.new refusals.old refusals.new result }
     ensures counts { refusals.old ≤ K.faults store.old.keeper → refusals.new ≤ K.faults store.new.keeper }
-    ensures cause { result ≡ Reply.Refused CoreFault.Keeper → Rose (K.faults store.old.keeper) (K.faults store.new.keeper) }
+    ensures cause { is_lost result ≡ true → Rose (K.faults store.old.keeper) (K.faults store.new.keeper) }
     ensures followed { ∥ IsFollowed (K.tables store.new.place store.new.keeper) store.new.orphans store.new.rows catalogue.new.settings.orphans catalogue.new.state ∥₁ }
     ensures place { store.new.place ≡ store.old.place }
     ensures later { K.faults store.old.keeper ≤ K.faults store.new.keeper }
@@ -220,7 +266,7 @@ fn follow<L: Layers, K: Keeper>(
         Committed::Failed => {
             catalogue.put_back(saved);
             *refusals = refusals.saturating_add(1);
-            Reply::Refused(CoreFault::Keeper)
+            unkept(alloc, catalogue, command, now)
         }
         Committed::NoMemory => {
             catalogue.put_back(saved);
@@ -230,8 +276,8 @@ fn follow<L: Layers, K: Keeper>(
 }
 
 impl<L: Layers, C: Clock, K: Keeper> KeptDesk<L, C, K> {
-    /// Does what a command says, which stays with the caller, and answers it with the moment at which it came. The keeper's fault comes only
-    /// where the keeper's count of faults rose in this call.
+    /// Does what a command says, which stays with the caller, and answers it with the moment at which it came. The keeper's fault, also as what cut a
+    /// settle, comes only where the keeper's count of faults rose in this call.
     pub fn act_at(
         &mut self,
         alloc: Global,
@@ -244,7 +290,7 @@ impl<L: Layers, C: Clock, K: Keeper> KeptDesk<L, C, K> {
         ensures feed { self.new.feed ≡ self.old.feed }
         ensures place { self.new.store.place ≡ self.old.store.place }
         ensures later { K.faults self.old.store.keeper ≤ K.faults self.new.store.keeper }
-        ensures cause { result.1 ≡ Reply.Refused CoreFault.Keeper → Rose (K.faults self.old.store.keeper) (K.faults self.new.store.keeper) }
+        ensures cause { is_lost result.1 ≡ true → Rose (K.faults self.old.store.keeper) (K.faults self.new.store.keeper) }
     {
         let now = self.clock.now();
         if leaves_rows(&self.catalogue, command) {

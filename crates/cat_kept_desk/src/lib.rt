@@ -1,8 +1,9 @@
 //! A desk whose catalogue is kept in a store.
 //!
 //! What a command changes of what is stored is committed as one batch before it is answered; a command whose change the keeper refuses is
-//! answered `CoreFault::Keeper`, it is counted, and the catalogue is as before it. A settle is one change, for which all rows are made and compared; for
-//! any other command only those are that it reached (cat_reached). What leaves the stored rows as they are asks nothing of the keeper.
+//! answered `CoreFault::Keeper`, it is counted, and the catalogue is as before it. A settle is committed as one batch, for which all rows are made and
+//! compared; where the keeper refuses it, it is cut behind its first event, which changes no stored row. For any other command only those rows are made
+//! that it reached (cat_reached). What leaves the stored rows as they are asks nothing of the keeper.
 //!
 //! The catalogue is put back to a copy from before the command. The desk keeps a spare one, to which each command is done that was done to the
 //! catalogue (cat_spare), so that records aren't copied for each. There is none at first, and after a settle, a mutation of more than 64 items, and a command that
@@ -17,3 +18,9 @@ pub mod desk;
 mod reaching;
 
 pub use desk::KeptDesk;
+
+// What this crate stands on and hands on.
+pub use cat_fed;
+pub use cat_reached;
+pub use cat_store;
+pub use cat_store::{cat_renewed, cat_reopened};

@@ -1,6 +1,6 @@
 -- A message at the moment 0, carried out by a desk whose catalogue is kept.
-use Rattle.std.proofs.Common.{◌≡◌, ◌⊎◌, ℕ, Bool, List, true, false, not, if◌then◌else◌, refl, sym, ap, ◌∙◌, subst, inl, inr}
-use Rattle.std.specs.Prelude.{Option, IfSome}
+use Rattle.std.proofs.Common.{◌≡◌, ◌⊎◌, ℕ, Bool, List, true, false, true≢false, not, ◌&&◌, if◌then◌else◌, refl, sym, ap, ◌∙◌, subst, inl, inr}
+use Rattle.std.specs.Prelude.{Option, Some, IfSome}
 use Rattle.std.specs.declared.result.Result.{Result}
 use Rattle.std.specs.declared.result.Result.TheVariants.{Ok, Err}
 use Rattle.cat_api.proofs.Serving.{acts_at, asks_at, tells_at, is_worded}
@@ -10,31 +10,35 @@ use Rattle.cat_api.specs.Operations.{Operation, operation}
 use Rattle.cat_api.specs.Operations.Operation.{Act, Ask, Tell}
 use Rattle.cat_api.specs.Wire.{Wired, after_operation, after_requested, operation_answer, requested_answer, wire_after, wire_reply}
 use Rattle.cat_api.specs.declared.kind.Kind.{Kind}
-use Rattle.cat_core.specs.declared.ledger.Ledger.{Ledger}
-use Rattle.cat_desk.specs.Asks.{AsksOnce}
-use Rattle.cat_desk.specs.Deed.{Deed}
-use Rattle.cat_fed.specs.Told.{Tells}
+use Rattle.cat_api.specs.cat_core.specs.declared.ledger.Ledger.{Ledger}
+use Rattle.cat_api.specs.cat_desk.specs.Acts.{after_deed}
+use Rattle.cat_api.specs.cat_desk.specs.Asks.{AsksOnce}
+use Rattle.cat_api.specs.cat_desk.specs.Deed.{Deed}
+use Rattle.cat_api.specs.cat_fed.specs.Told.{Tells}
 use Rattle.cat_feed.specs.declared.ledger.Ledger.{Ledger as Feed}
 use Rattle.cat_http.specs.Reply.{reply_bytes}
 use Rattle.cat_http.specs.declared.message.Message.{Message}
 use Rattle.cat_http.specs.declared.reply.HttpReply.{HttpReply}
 use Rattle.cat_io.specs.Clock.{CountsReading}
 use Rattle.cat_keeper.specs.declared.keeper.Place.{Place}
-use Rattle.cat_kept_desk.specs.Deeds.{KeptActs, IsUnkept}
+use Rattle.cat_kept_desk.specs.Deeds.{KeptActs}
+use Rattle.cat_kept_desk.proofs.Answered.{settle_is}
 use Rattle.cat_kept_desk.specs.Followed.{one_more}
+use Rattle.cat_loop.specs.Word as deeds
 use Rattle.cat_model.specs.Catalogue.{Rules}
-use Rattle.cat_requests.specs.Answers.{reply_to}
-use Rattle.cat_requests.specs.Requests.{request_of}
-use Rattle.cat_requests.specs.declared.answer.Answer.TheVariants.{Refused}
-use Rattle.cat_requests.specs.declared.refusal.Refusal.{Refusal}
-use Rattle.cat_requests.specs.declared.refusal.Refusal.TheVariants.{Keeper}
-use Rattle.cat_requests.specs.declared.request.Request.{Request}
+use Rattle.cat_model.specs.Settle.{try_settle}
+use Rattle.cat_api.specs.cat_requests.specs.Answers.{reply_to}
+use Rattle.cat_api.specs.cat_requests.specs.Requests.{request_of}
+use Rattle.cat_api.specs.cat_requests.specs.declared.answer.Answer.TheVariants.{Refused}
+use Rattle.cat_api.specs.cat_requests.specs.declared.refusal.Refusal.{Refusal}
+use Rattle.cat_api.specs.cat_requests.specs.declared.refusal.Refusal.TheVariants.{CutByKeeper, Keeper}
+use Rattle.cat_api.specs.cat_requests.specs.declared.request.Request.{Request}
 use Rattle.cat_wire.proofs.Wording.{outcome_worded, transcript_worded}
 use Rattle.cat_wire.specs.Connection.{Outcome, Transcript}
 use Rattle.cat_wire.specs.Runs.{Answering, Lacking, AnswersItems}
-use Rattle.cat_wire.specs.Worded.{Word, plain, memory, cut, untold, unkept, IsAnswered, AnswersMessage, LacksMemory, HasWords, IsWorded}
+use Rattle.cat_wire.specs.Worded.{Word, plain, memory, cut, untold, unkept, cut_unkept, IsAnswered, AnswersMessage, LacksMemory, HasWords, IsWorded}
 use Rattle.cat_wire.specs.declared.message_loop.ConnEnd.{ConnEnd}
-use Rattle.cat_kept_wire.specs.Wire.{KeptWired, changes, kept_wire_after, kept_wire_reply, may_change, unkept_reply}
+use Rattle.cat_kept_wire.specs.Wire.{KeptWired, cut_reply, is_single, kept_wire_after, kept_wire_reply, may_be_cut, may_be_refused, one_refused, settle_events, settles, unkept_reply}
 
 -- ---- a catalogue that isn't kept refuses nothing that it would keep
 
@@ -64,6 +68,51 @@ module _ (rules : Rules) (w : Wired) where
   reply_plain : (m : Message) → wire_reply rules w unkept m ≡ wire_reply rules w plain m
   unfolding wire_reply
   reply_plain m = ap (λ a. reply_bytes (reply_to m a)) (requested_told (request_of m))
+
+  -- the same of one that is said to be cut
+  module _ (n : ℕ) where
+    operated_cut : (o : Operation) → after_operation rules (cut_unkept n) o w ≡ after_operation rules plain o w
+    operated_cut (Act d k) = refl
+    operated_cut (Ask q) = refl
+    operated_cut (Tell since) = refl
+
+    told_cut : (o : Operation) → operation_answer rules (cut_unkept n) o w ≡ operation_answer rules plain o w
+    told_cut (Act d k) = refl
+    told_cut (Ask q) = refl
+    told_cut (Tell since) = refl
+
+    requested_after_cut : (asked : Result Request Refusal) → after_requested rules (cut_unkept n) asked w ≡ after_requested rules plain asked w
+    requested_after_cut (Ok request) = operated_cut (operation request)
+    requested_after_cut (Err refusal) = refl
+
+    requested_told_cut : (asked : Result Request Refusal) → requested_answer rules (cut_unkept n) asked w ≡ requested_answer rules plain asked w
+    requested_told_cut (Ok request) = told_cut (operation request)
+    requested_told_cut (Err refusal) = refl
+
+    after_cut : (m : Message) → wire_after rules w (cut_unkept n) m ≡ wire_after rules w plain m
+    unfolding wire_after
+    after_cut m = requested_after_cut (request_of m)
+
+    reply_cut : (m : Message) → wire_reply rules w (cut_unkept n) m ≡ wire_reply rules w plain m
+    unfolding wire_reply
+    reply_cut m = ap (λ a. reply_bytes (reply_to m a)) (requested_told_cut (request_of m))
+
+    -- what a settle does of which just the first events were kept
+    abbrev first_events : Wired
+    first_events = record w { catalogue = record w.catalogue { state = (try_settle rules w.catalogue.settings 0 (Some n) w.catalogue.state).state } }
+
+    operation_first : (o : Operation) → settles o ≡ true → after_operation rules (cut n) o w ≡ first_events
+    operation_first (Act d k) h = ap (λ e. record w { catalogue = record w.catalogue { state = after_deed rules w.catalogue.settings 0 (deeds.cut n) e w.catalogue.state } }) (settle_is d h)
+    operation_first (Ask q) h = absurd (true≢false (sym h))
+    operation_first (Tell since) h = absurd (true≢false (sym h))
+
+    requested_first : (asked : Result Request Refusal) → may_be_cut asked ≡ true → after_requested rules (cut n) asked w ≡ first_events
+    requested_first (Ok request) h = operation_first (operation request) h
+    requested_first (Err refusal) h = absurd (true≢false (sym h))
+
+    after_first : (m : Message) → may_be_cut (request_of m) ≡ true → wire_after rules w (cut n) m ≡ first_events
+    unfolding wire_after
+    after_first m h = requested_first (request_of m) h
 
 -- ---- a catalogue that is kept, with a clock and a feed
 
@@ -118,30 +167,64 @@ module _ {A C : Type 0} (rules : Rules) (catalogue : A → Ledger) (clock : A �
     pub place_is : place new ≡ place old
     pub reply_is : r ≡ reply_to m (Refused Keeper)
 
+  -- of a settle just the first events were kept
+  record IsCut (old new : A) (m : Message) (r : HttpReply) : Type 0 where
+    pub events : ℕ
+    pub state : (catalogue new).state ≡ (try_settle rules (catalogue old).settings (moment (clock new)) (Some events) (catalogue old).state).state
+    pub exact : (try_settle rules (catalogue old).settings (moment (clock new)) (Some events) (catalogue old).state).events ≡ events
+    pub settings : (catalogue new).settings ≡ (catalogue old).settings
+    pub counted : refusals new ≡ one_more (refusals old)
+    pub moment_is : moment (clock new) ≡ moment (clock old)
+    pub feed_is : feed new ≡ feed old
+    pub place_is : place new ≡ place old
+    pub reply_is : r ≡ reply_to m (Refused (CutByKeeper events))
+
+  single_is : (leaves settle : Bool) → leaves ≡ false → settle ≡ false → (not leaves && not settle) ≡ true
+  single_is leaves settle a b = λ i. not (a i) && not (b i)
+
   module _ (old new : A) where
-    acted : (d : Deed) (k : Kind) (m : Message) (r : HttpReply) → ActsBy acts_kept old new d k m r → (ActsBy acts_plain old new d k m r × Stays old new) ⊎ (IsRefused old new m r × (changes (Act d k) (catalogue old).state ≡ true))
+    acted : (d : Deed) (k : Kind) (m : Message) (r : HttpReply) → ActsBy acts_kept old new d k m r
+        → (ActsBy acts_plain old new d k m r × Stays old new) ⊎ ((IsRefused old new m r × (is_single (Act d k) (catalogue old).state ≡ true)) ⊎ (IsCut old new m r × (settles (Act d k) ≡ true)))
     acted d k m r h = elim h.1.0.0 [
       | inl a ↦ inl ((h.0, ((record { acts = a.0; reads = h.1.0.1.0 }, h.1.0.1.1), h.1.1.0), h.2, h.3), (h.1.1.1, a.1))
-      | inr u ↦ inr (
-        record {
-          state = u.0.state;
-          settings = u.0.settings;
-          counted = u.1;
-          moment_is = h.1.0.1.1;
-          feed_is = h.1.1.0;
-          place_is = h.1.1.1;
-          reply_is = h.3 ∙ ap (λ x. reply_to m (act_answer k x)) u.0.answer;
-        },
-        ap not u.0.changes,
-      )
+      | inr u ↦ inr (elim u.0 [
+        | inl w ↦ inl (
+          record {
+            state = w.state;
+            settings = w.settings;
+            counted = u.1;
+            moment_is = h.1.0.1.1;
+            feed_is = h.1.1.0;
+            place_is = h.1.1.1;
+            reply_is = h.3 ∙ ap (λ x. reply_to m (act_answer k x)) w.answer;
+          },
+          single_is _ _ w.changes w.single,
+        )
+        | inr w ↦ inr (
+          record {
+            events = w.events;
+            state = w.state;
+            exact = w.exact;
+            settings = w.settings;
+            counted = u.1;
+            moment_is = h.1.0.1.1;
+            feed_is = h.1.1.0;
+            place_is = h.1.1.1;
+            reply_is = h.3 ∙ ap (λ x. reply_to m (act_answer k x)) w.answer;
+          },
+          ap (λ e. settles (Act e k)) w.settles,
+        )
+      ])
     ]
 
-    carried : (o : Operation) (m : Message) (r : HttpReply) → Carries acts_kept asks_kept tells_kept old new o m r → (Carries acts_plain asks_plain tells_plain old new o m r × Stays old new) ⊎ (IsRefused old new m r × (changes o (catalogue old).state ≡ true))
+    carried : (o : Operation) (m : Message) (r : HttpReply) → Carries acts_kept asks_kept tells_kept old new o m r
+        → (Carries acts_plain asks_plain tells_plain old new o m r × Stays old new) ⊎ ((IsRefused old new m r × (is_single o (catalogue old).state ≡ true)) ⊎ (IsCut old new m r × (settles o ≡ true)))
     carried (Act d k) m r h = acted d k m r h
     carried (Ask q) m r h = inl ((h.0, h.1, (h.2.0, h.2.1.0), h.3, h.4), h.2.1.1)
     carried (Tell since) m r h = inl ((h.0, h.1, (h.2.0, λ i. (h.2.1.0 i, h.2.1.1.0 i)), h.3, h.4), h.2.1.1.1)
 
-    requested : (asked : Result Request Refusal) (m : Message) (r : HttpReply) → Answers acts_kept asks_kept tells_kept old new asked m r → (Answers acts_plain asks_plain tells_plain old new asked m r × Stays old new) ⊎ (IsRefused old new m r × (may_change asked (catalogue old).state ≡ true))
+    requested : (asked : Result Request Refusal) (m : Message) (r : HttpReply) → Answers acts_kept asks_kept tells_kept old new asked m r
+        → (Answers acts_plain asks_plain tells_plain old new asked m r × Stays old new) ⊎ ((IsRefused old new m r × (may_be_refused asked (catalogue old).state ≡ true)) ⊎ (IsCut old new m r × (may_be_cut asked ≡ true)))
     requested (Ok request) m r h = carried (operation request) m r h
     requested (Err refusal) m r h = inl (h, (ap place h.0, ap refusals h.0))
 
@@ -150,7 +233,10 @@ module _ {A C : Type 0} (rules : Rules) (catalogue : A → Ledger) (clock : A �
       | inl e ↦ (inl e, (ap place e, ap refusals e))
       | inr l ↦ elim l.1.0.0 [
         | inl a ↦ (inr (l.0, ((record { acts = a.0; reads = l.1.0.1.0 }, l.1.0.1.1), l.1.1.0), l.2), (l.1.1.1, a.1))
-        | inr u ↦ (let e : true ≡ false = sym l.2 ∙ ap lacks_memory u.0.answer in cc)
+        | inr u ↦ elim u.0 [
+          | inl w ↦ (let e : true ≡ false = sym l.2 ∙ ap lacks_memory w.answer in cc)
+          | inr w ↦ (let e : true ≡ false = sym l.2 ∙ ap lacks_memory w.answer in cc)
+        ]
       ]
     ]
 
@@ -174,10 +260,27 @@ module _ {A C : Type 0} (rules : Rules) (catalogue : A → Ledger) (clock : A �
     seen_is : (w : Wired) → (seen new).wired ≡ w → Stays old new → seen new ≡ record (seen old) { wired = w }
     seen_is w e s = λ i. record { wired = e i; place = s.0 i; refusals = s.1 i }
 
-    refused_is : (m : Message) (r : HttpReply) → IsRefused old new m r → may_change (request_of m) (catalogue old).state ≡ true → seen new ≡ kept_wire_after rules (seen old) unkept m
+    refused_is : (m : Message) (r : HttpReply) → IsRefused old new m r → may_be_refused (request_of m) (catalogue old).state ≡ true → seen new ≡ kept_wire_after rules (seen old) unkept m
     refused_is m r u may =
-        let is : seen new ≡ record (seen old) { refusals = one_more (refusals old) } = λ i. record { wired = record { catalogue = record { settings = u.settings i; state = u.state i }; feed = u.feed_is i }; place = u.place_is i; refusals = u.counted i } in
-        is ∙ ap (λ (b : Bool). if b then record (seen old) { refusals = one_more (refusals old) } else record (seen old) { wired = wire_after rules (seen old).wired plain m }) (sym may)
+        let is : seen new ≡ one_refused (seen old).wired (seen old) = λ i. record { wired = record { catalogue = record { settings = u.settings i; state = u.state i }; feed = u.feed_is i }; place = u.place_is i; refusals = u.counted i } in
+        is ∙ ap (λ (b : Bool). if b then one_refused (seen old).wired (seen old) else record (seen old) { wired = wire_after rules (seen old).wired plain m }) (sym may)
+
+    -- the state of a settle of which just the first events were kept, at the moment 0
+    first_state : (m : Message) (r : HttpReply) (u : IsCut old new m r) → moment (clock new) ≡ 0 → (catalogue new).state ≡ (try_settle rules (catalogue old).settings 0 (Some u.events) (catalogue old).state).state
+    first_state m r u zero = u.state ∙ ap (λ k. (try_settle rules (catalogue old).settings k (Some u.events) (catalogue old).state).state) zero
+
+    cut_is : (m : Message) (r : HttpReply) (u : IsCut old new m r) → moment (clock new) ≡ 0 → may_be_cut (request_of m) ≡ true → seen new ≡ kept_wire_after rules (seen old) (cut_unkept u.events) m
+    cut_is m r u zero may =
+        let state = first_state m r u zero in
+        let is : seen new ≡ one_refused (first_events rules (seen old).wired u.events) (seen old) = λ i. record { wired = record { catalogue = record { settings = u.settings i; state = state i }; feed = u.feed_is i }; place = u.place_is i; refusals = u.counted i } in
+        is ∙ (ap (λ w. one_refused w (seen old)) (sym (after_first rules (seen old).wired u.events m may))
+        ∙ ap (λ (b : Bool). if b then one_refused (wire_after rules (seen old).wired (cut u.events) m) (seen old) else record (seen old) { wired = wire_after rules (seen old).wired plain m }) (sym may))
+
+    cut_told : (m : Message) (r : HttpReply) (u : IsCut old new m r) → moment (clock new) ≡ 0 → may_be_cut (request_of m) ≡ true → reply_bytes r ≡ kept_wire_reply rules (seen old) (cut_unkept u.events) m
+    cut_told m r u zero may =
+        let exact : u.events ≡ settle_events rules u.events (seen old).wired = sym u.exact ∙ ap (λ k. (try_settle rules (catalogue old).settings k (Some u.events) (catalogue old).state).events) zero in
+        ap reply_bytes u.reply_is ∙ (ap (cut_reply m) exact
+        ∙ ap (λ (b : Bool). if b then cut_reply m (settle_events rules u.events (seen old).wired) else wire_reply rules (seen old).wired plain m) (sym may))
 
     kept_word : (m : Message) (text : List ℕ) (word : Word) → IsAnswered word → (seen new).wired ≡ wire_after rules (seen old).wired word m → text ≡ wire_reply rules (seen old).wired word m → Stays old new
         → AnswersMessage (kept_wire_after rules) (kept_wire_reply rules) (seen old) m (seen new) text
@@ -186,6 +289,7 @@ module _ {A C : Type 0} (rules : Rules) (catalogue : A → Ledger) (clock : A �
     kept_word m text (cut n) acts e t s = (cut n, tt, seen_is _ e s, t)
     kept_word m text untold acts e t s = absurd acts
     kept_word m text unkept acts e t s = (plain, tt, seen_is _ (e ∙ after_plain rules (seen old).wired m) s, t ∙ reply_plain rules (seen old).wired m)
+    kept_word m text (cut_unkept n) acts e t s = (plain, tt, seen_is _ (e ∙ after_cut rules (seen old).wired n m) s, t ∙ reply_cut rules (seen old).wired n m)
 
   plain_worded : IsWorded (λ old m new text. AnswersBytes acts_plain asks_plain tells_plain old m new text) (λ old m new. Lacks acts_plain asks_plain tells_plain old new (request_of m))
       IsAtZero (λ a. (seen a).wired) (wire_after rules) (wire_reply rules)
@@ -197,15 +301,21 @@ module _ {A C : Type 0} (rules : Rules) (catalogue : A → Ledger) (clock : A �
     | inl p ↦
         let a = plain_worded.answered old new m text zero (h.0, p.0, h.2) in
         (a.0, kept_word old new m text a.1.0 a.1.1 a.1.2 a.1.3 p.1)
-    | inr u ↦ (
-      u.0.moment_is ∙ zero,
-      (
-        unkept,
-        tt,
-        refused_is old new m h.0 u.0 u.1,
-        h.2 ∙ (ap reply_bytes u.0.reply_is ∙ ap (λ (b : Bool). if b then unkept_reply m else wire_reply rules (seen old).wired plain m) (sym u.1)),
-      ),
-    )
+    | inr lost ↦ elim lost [
+      | inl u ↦ (
+        u.0.moment_is ∙ zero,
+        (
+          unkept,
+          tt,
+          refused_is old new m h.0 u.0 u.1,
+          h.2 ∙ (ap reply_bytes u.0.reply_is ∙ ap (λ (b : Bool). if b then unkept_reply m else wire_reply rules (seen old).wired plain m) (sym u.1)),
+        ),
+      )
+      | inr u ↦ (
+          let at = u.0.moment_is ∙ zero in
+          (at, (cut_unkept u.0.events, tt, cut_is old new m h.0 u.0 at u.1, h.2 ∙ cut_told old new m h.0 u.0 at u.1))
+          )
+    ]
   ]
 
   lacked_kept : (old new : A) (m : Message) → IsAtZero old → Lacks acts_kept asks_kept tells_kept old new (request_of m) → IsAtZero new × LacksMemory (kept_wire_after rules) (seen old) m (seen new)

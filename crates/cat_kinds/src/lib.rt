@@ -12,3 +12,6 @@ pub mod law;
 pub mod mention;
 
 pub use cat_types::relation::{RelKind, Relation};
+
+// What this crate stands on and hands on.
+pub use cat_schema;

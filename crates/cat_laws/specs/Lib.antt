@@ -1,0 +1,2 @@
+pub use Rattle.cat_model
+pub use Rattle.cat_types

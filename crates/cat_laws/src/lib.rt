@@ -5,3 +5,7 @@
 #![tactic(auto)]
 
 pub mod theorem;
+
+// What this crate stands on and hands on.
+pub use cat_model;
+pub use cat_types;

@@ -5,9 +5,9 @@ ghost use Rattle.cat_table.specs.Table.{find};
 ghost use Rattle.cat_links.specs.Links.{is_empty};
 ghost use Rattle.cat_links.specs.Counts as spec;
 
-use cat_ref::reference::Ref;
 use cat_table::listing::Copied;
 use cat_table::map::Map;
+use cat_types::cat_ref::reference::Ref;
 use cat_types::relation::Relation;
 use std::alloc::{AllocError, Global};
 

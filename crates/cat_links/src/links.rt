@@ -11,9 +11,9 @@ ghost use Rattle.cat_links.specs.Links as spec;
 
 use crate::counts::{Counts, SourceCounts, gain, is_counted, lose};
 use crate::moved::difference;
-use cat_ref::reference::Ref;
 use cat_table::listing::{Copied, Listing};
 use cat_table::map::Map;
+use cat_types::cat_ref::reference::Ref;
 use cat_types::relation::Relation;
 use cat_types::sorted::{append, in_order};
 use std::alloc::{AllocError, Global};

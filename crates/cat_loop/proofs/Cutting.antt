@@ -6,7 +6,7 @@ use Rattle.std.proofs.lemmas.Bool.{lt-ltb, cases_lt, ne_eqb}
 use Rattle.std.specs.Str.Lines.{strip_carriage_return}
 use Rattle.cat_loop.specs.declared.buffer.TheConstants.{ROOM}
 use Rattle.cat_loop.specs.Lines.{longest_line, whole_from, rest_from, last_line, lines, whole_lines, HasNoLf}
-use Rattle.cat_loop.specs.Word.{Word, plain, memory, cut, unkept, After, Reply}
+use Rattle.cat_loop.specs.Word.{Word, plain, memory, cut, unkept, cut_unkept, After, Reply}
 use Rattle.cat_loop.specs.Runs.{line_after, line_reply}
 use Rattle.cat_loop.specs.Session.{IsKept}
 
@@ -57,6 +57,7 @@ same_reply reply a b la lb m plain = let ta = lt-ltb longest_line (length a) la 
 same_reply reply a b la lb m memory = refl
 same_reply reply a b la lb m (cut n) = let ta = lt-ltb longest_line (length a) la in let tb = lt-ltb longest_line (length b) lb in rw (ta, tb)
 same_reply reply a b la lb m unkept = let ta = lt-ltb longest_line (length a) la in let tb = lt-ltb longest_line (length b) lb in rw (ta, tb)
+same_reply reply a b la lb m (cut_unkept n) = let ta = lt-ltb longest_line (length a) la in let tb = lt-ltb longest_line (length b) lb in rw (ta, tb)
 
 same_after : {A : Type 0} (after : After A) (a b : List ℕ) → longest_line < length a → longest_line < length b → (m : A) (word : Word) → line_after after m word a ≡ line_after after m word b
 unfolding line_after
@@ -64,6 +65,7 @@ same_after after a b la lb m plain = let ta = lt-ltb longest_line (length a) la 
 same_after after a b la lb m memory = refl
 same_after after a b la lb m (cut n) = let ta = lt-ltb longest_line (length a) la in let tb = lt-ltb longest_line (length b) lb in rw (ta, tb)
 same_after after a b la lb m unkept = let ta = lt-ltb longest_line (length a) la in let tb = lt-ltb longest_line (length b) lb in rw (ta, tb)
+same_after after a b la lb m (cut_unkept n) = let ta = lt-ltb longest_line (length a) la in let tb = lt-ltb longest_line (length b) lb in rw (ta, tb)
 
 both_long : {A : Type 0} (after : After A) (reply : Reply A) (a b : List ℕ) → longest_line < length a → longest_line < length b → SameLine after reply a b
 both_long after reply a b la lb = record { reply_is = same_reply reply a b la lb; after_is = same_after after a b la lb }

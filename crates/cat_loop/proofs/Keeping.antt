@@ -1,7 +1,7 @@
 -- What every line of a session keeps holds after every line.
 use Rattle.std.proofs.Common.{ℕ, true, false, cond, nat_lt, List, [], ◌∷◌, length}
 use Rattle.cat_loop.specs.Lines.{longest_line}
-use Rattle.cat_loop.specs.Word.{Word, plain, memory, cut, unkept, After}
+use Rattle.cat_loop.specs.Word.{Word, plain, memory, cut, unkept, cut_unkept, After}
 use Rattle.cat_loop.specs.Runs.{line_after, after_lines}
 
 -- the machine keeps it at every line that acts
@@ -14,6 +14,7 @@ line_after-keeps after P keeps m plain line p = elim (nat_lt longest_line (lengt
 line_after-keeps after P keeps m memory line p = p
 line_after-keeps after P keeps m (cut n) line p = elim (nat_lt longest_line (length line)) as (λ t. P (cond t m (after m (cut n) line))) [ true ↦ p | false ↦ keeps m (cut n) line p ]
 line_after-keeps after P keeps m unkept line p = elim (nat_lt longest_line (length line)) as (λ t. P (cond t m (after m unkept line))) [ true ↦ p | false ↦ keeps m unkept line p ]
+line_after-keeps after P keeps m (cut_unkept n) line p = elim (nat_lt longest_line (length line)) as (λ t. P (cond t m (after m (cut_unkept n) line))) [ true ↦ p | false ↦ keeps m (cut_unkept n) line p ]
 
 -- It holds after any lines, and so after every prefix of the lines of a session.
 pub after_lines-keeps : {A : Type 0} (after : After A) (P : A → Type 0) → Keeps after P → (m : A) → P m → (lines : List (List ℕ)) (words : List Word) → P (after_lines after m lines words)

@@ -2,7 +2,7 @@
 use Rattle.std.proofs.Common.{◌≡◌, ℕ, ◌<◌, ◌≤◌, List, [], ◌∷◌, ◌++◌, length, codes, refl}
 use Rattle.std.proofs.lemmas.Bool.{lt-ltb, le-ltb}
 use Rattle.cat_loop.specs.Lines.{longest_line}
-use Rattle.cat_loop.specs.Word.{Word, plain, memory, cut, unkept, IsActing, After, Reply}
+use Rattle.cat_loop.specs.Word.{Word, plain, memory, cut, unkept, cut_unkept, IsActing, After, Reply}
 use Rattle.cat_loop.specs.Runs.{line_after, line_reply}
 
 pub long_reply : {A : Type 0} (reply : Reply A) (m : A) (line : List ℕ) → longest_line < length line → line_reply reply m plain line ≡ codes "refused long" ++ 10 ∷ []
@@ -27,6 +27,7 @@ short_reply reply m plain line acting short = rw (le-ltb longest_line (length li
 short_reply reply m memory line acting short = absurd acting
 short_reply reply m (cut n) line acting short = rw (le-ltb longest_line (length line) short)
 short_reply reply m unkept line acting short = rw (le-ltb longest_line (length line) short)
+short_reply reply m (cut_unkept n) line acting short = rw (le-ltb longest_line (length line) short)
 
 pub short_after : {A : Type 0} (after : After A) (m : A) (word : Word) (line : List ℕ) → IsActing word → length line ≤ longest_line → line_after after m word line ≡ after m word line
 unfolding line_after
@@ -34,3 +35,4 @@ short_after after m plain line acting short = rw (le-ltb longest_line (length li
 short_after after m memory line acting short = absurd acting
 short_after after m (cut n) line acting short = rw (le-ltb longest_line (length line) short)
 short_after after m unkept line acting short = rw (le-ltb longest_line (length line) short)
+short_after after m (cut_unkept n) line acting short = rw (le-ltb longest_line (length line) short)

@@ -1,6 +1,6 @@
 -- What a machine does over the lines of a session.
 use Rattle.std.specs.Prelude.{◌≡◌, ℕ, ◌-◌, ◌<◌, ◌≤◌, List, [], ◌∷◌, ◌++◌, nat_lt, if◌then◌else◌, length, take, codes}
-use Rattle.cat_loop.specs.Word.{Word, plain, memory, cut, unkept, After, Reply}
+use Rattle.cat_loop.specs.Word.{Word, plain, memory, cut, unkept, cut_unkept, After, Reply}
 use Rattle.cat_loop.specs.Lines.{longest_line}
 
 -- The state after a line: it stays at a line that lacks memory, and at one that is too long.
@@ -9,6 +9,7 @@ line_after after m plain line = if nat_lt longest_line (length line) then m else
 line_after after m memory line = m
 line_after after m (cut n) line = if nat_lt longest_line (length line) then m else after m (cut n) line
 line_after after m unkept line = if nat_lt longest_line (length line) then m else after m unkept line
+line_after after m (cut_unkept n) line = if nat_lt longest_line (length line) then m else after m (cut_unkept n) line
 
 -- The reply to a line, its LF at the end: a line that lacks memory and one that is too long have replies of their own.
 unfoldable pub line_reply : {A : Type 0} → Reply A → A → Word → List ℕ → List ℕ
@@ -16,6 +17,7 @@ line_reply reply m plain line = if nat_lt longest_line (length line) then codes 
 line_reply reply m memory line = codes "no memory" ++ 10 ∷ []
 line_reply reply m (cut n) line = if nat_lt longest_line (length line) then codes "refused long" ++ 10 ∷ [] else reply m (cut n) line
 line_reply reply m unkept line = if nat_lt longest_line (length line) then codes "refused long" ++ 10 ∷ [] else reply m unkept line
+line_reply reply m (cut_unkept n) line = if nat_lt longest_line (length line) then codes "refused long" ++ 10 ∷ [] else reply m (cut_unkept n) line
 
 -- the state after the lines, each with its word
 abbrev pub after_lines : {A : Type 0} → After A → A → List (List ℕ) → List Word → A

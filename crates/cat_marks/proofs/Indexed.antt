@@ -6,10 +6,10 @@ use Rattle.std.specs.Ordering.{eq_by_cmp, is_eq, ordering_then}
 use Rattle.std.specs.Cmp.{IsTotalOrder, nat_cmp_total, eq_by_cmp_equiv}
 use Rattle.std.specs.FinMap.{IsAntisymmetric, nat_cmp-IsAntisymmetric}
 use Rattle.std.specs.FinMap.Entries.{find-put, find-where_key}
-use Rattle.cat_table.specs.Pairs.{pair_total, pair_antisymmetric}
-use Rattle.cat_table.specs.Rows.{without}
-use Rattle.cat_table.specs.Table.{Text, find, get, put, same_text, text_cmp}
-use Rattle.cat_table.proofs.Tables.{text_total, text_antisymmetric, same_is}
+use Rattle.cat_types.specs.cat_table.specs.Pairs.{pair_total, pair_antisymmetric}
+use Rattle.cat_types.specs.cat_table.specs.Rows.{without}
+use Rattle.cat_types.specs.cat_table.specs.Table.{Text, find, get, put, same_text, text_cmp}
+use Rattle.cat_types.specs.cat_table.proofs.Tables.{text_total, text_antisymmetric, same_is}
 use Rattle.cat_marks.specs.Marks.{IsIndexed, Mark, Tickets, is_ticket, ticket_cmp, tickets_with, tickets_without}
 
 pub ticket_total : IsTotalOrder ticket_cmp

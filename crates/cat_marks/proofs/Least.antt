@@ -8,10 +8,10 @@ use Rattle.std.specs.Ordering.{MatchOrdering, eq_by_cmp, is_eq, is_gt, ordering_
 use Rattle.std.specs.Cmp.{IsTotalOrder, nat_cmp_is, nat_cmp_total, ranks, tied_itself}
 use Rattle.std.specs.FinMap.{IsAntisymmetric}
 use Rattle.std.specs.FinMap.Entries.{below_all, is_sorted}
-use Rattle.cat_table.specs.Places.{before, first_from}
-use Rattle.cat_table.specs.Table.{Text, find, get, text_cmp}
-use Rattle.cat_table.proofs.Places.{first_from_is}
-use Rattle.cat_table.proofs.Tables.{and_first, and_second, same_is, same_self, text_total, text_antisymmetric}
+use Rattle.cat_types.specs.cat_table.specs.Places.{before, first_from}
+use Rattle.cat_types.specs.cat_table.specs.Table.{Text, find, get, text_cmp}
+use Rattle.cat_types.specs.cat_table.proofs.Places.{first_from_is}
+use Rattle.cat_types.specs.cat_table.proofs.Tables.{and_first, and_second, same_is, same_self, text_total, text_antisymmetric}
 use Rattle.cat_marks.specs.Marks.{IsIndexed, Mark, Tickets, is_ticket, least_above, lesser_ticket, ticket_cmp}
 use Rattle.cat_marks.proofs.Indexed.{ticket_antisymmetric, ticket_total}
 

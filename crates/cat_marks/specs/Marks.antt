@@ -4,9 +4,9 @@ use Rattle.std.specs.Ordering.{eq_by_cmp, nat_cmp}
 use Rattle.std.specs.declared.cmp.Ordering.{Ordering}
 use Rattle.std.specs.declared.option.Option.{Option}
 use Rattle.std.specs.declared.option.Option.TheVariants.{None, Some}
-use Rattle.cat_table.specs.Pairs.{pair_cmp}
-use Rattle.cat_table.specs.Rows.{without}
-use Rattle.cat_table.specs.Table.{Text, find, get, put, text_cmp}
+use Rattle.cat_types.specs.cat_table.specs.Pairs.{pair_cmp}
+use Rattle.cat_types.specs.cat_table.specs.Rows.{without}
+use Rattle.cat_types.specs.cat_table.specs.Table.{Text, find, get, put, text_cmp}
 
 -- a reference, and the ticket of its mark
 abbrev pub Mark : Type 0

@@ -1,17 +1,17 @@
 //! The marks of a catalogue, by reference and by ticket.
 ghost use Rattle.std.specs.Prelude.{◌≡◌, ◌==◌, ◌+◌, [], IfOk, IsTrue, if◌then◌else◌, is_ok, length, option_map};
 ghost use Rattle.std.specs.FinMap.Entries.{is_sorted};
-ghost use Rattle.cat_table.specs.Left.{items_left};
-ghost use Rattle.cat_table.specs.Rows.{without};
-ghost use Rattle.cat_table.specs.Table.{get, put, text_cmp};
+ghost use Rattle.cat_types.specs.cat_table.specs.Left.{items_left};
+ghost use Rattle.cat_types.specs.cat_table.specs.Rows.{without};
+ghost use Rattle.cat_types.specs.cat_table.specs.Table.{get, put, text_cmp};
 ghost use Rattle.cat_types.specs.Amended.{amended};
 ghost use Rattle.cat_marks.specs.Marks.{least_above, tickets_with, tickets_without};
 
-use cat_ref::reference::Ref;
-use cat_table::key::{Key, Seek};
-use cat_table::listing::Copied;
-use cat_table::map::Map;
-use cat_table::tree::Items;
+use cat_types::cat_ref::reference::Ref;
+use cat_types::cat_table::key::{Key, Seek};
+use cat_types::cat_table::listing::Copied;
+use cat_types::cat_table::map::Map;
+use cat_types::cat_table::tree::Items;
 use std::alloc::{AllocError, Global};
 use std::cmp::Ordering;
 use std::marker::Model;

@@ -9,3 +9,8 @@
 pub mod records;
 pub mod rows;
 pub mod types;
+
+// What this crate stands on and hands on.
+pub use cat_index;
+pub use cat_items;
+pub use cat_marks;

@@ -11,13 +11,13 @@ ghost use Rattle.cat_model.specs.declared.types.Origin.TheVariants.{Entity};
 ghost use Rattle.cat_model.specs.Rows.{GivenRises, GivenRisesLess, IsRowAt, Rises, RisesLess, given, named, names_of, reading, row_at, set_with, set_without, with_arrival, with_given, with_names, with_read, with_set, without_arrival, without_given, without_names};
 
 use crate::types::{Origin, Row};
-use cat_ref::reference::Ref;
 use cat_table::key::Key;
 use cat_table::listing::{Copied, Listing};
 use cat_table::map::Map;
 use cat_table::tree::Items;
+use cat_target::cat_ref::reference::Ref;
+use cat_target::cat_tree::text::Text;
 use cat_target::target::read_names;
-use cat_tree::text::Text;
 use std::alloc::{AllocError, Global};
 use std::marker::Model;
 

@@ -6,16 +6,16 @@ use Rattle.std.specs.declared.option.Option.TheVariants.{Some}
 use Rattle.cat_keeper.specs.Answers.{Are}
 use Rattle.cat_keeper.specs.Store.{Rows}
 use Rattle.cat_keeper.specs.declared.keeper.Place.{Place}
-use Rattle.cat_kept.specs.Kept.{kept_after, kept_reply, may_change}
-use Rattle.cat_kept.specs.declared.state.KeptState.{KeptState}
+use Rattle.cat_stored.specs.cat_kept.specs.Kept.{kept_after, kept_reply, may_be_cut, may_be_refused, one_refused}
+use Rattle.cat_stored.specs.cat_kept.specs.declared.state.KeptState.{KeptState}
 use Rattle.cat_commands.specs.Lines.{line_of}
-use Rattle.cat_kept_wire.specs.Wire.{KeptWired, kept_wire_after, kept_wire_reply}
+use Rattle.cat_stored.specs.cat_kept_wire.specs.Wire.{KeptWired, kept_wire_after, kept_wire_reply}
 use Rattle.cat_layers.specs.Layered.{layered}
 use Rattle.cat_loop.proofs.Keeping.{Keeps, after_lines-keeps}
 use Rattle.cat_loop.specs.Lines.{lines, whole_lines}
 use Rattle.cat_loop.specs.Runs.{after_lines}
 use Rattle.cat_loop.specs.Session.{Outcome}
-use Rattle.cat_loop.specs.Word.{Word, plain, memory, cut, unkept, After, Reply}
+use Rattle.cat_loop.specs.Word.{Word, plain, memory, cut, unkept, cut_unkept, After, Reply}
 use Rattle.cat_loop.specs.declared.line_loop.SessionEnd.{SessionEnd}
 use Rattle.cat_loop.specs.declared.line_loop.SessionEnd.TheVariants.{Whole, ReadFault, WriteFault, Bound, NoMemory}
 use Rattle.cat_model.specs.Step.{reopened}
@@ -26,10 +26,9 @@ use Rattle.cat_openable.specs.Reached.IsLasting.{runs, serves, reopens}
 use Rattle.cat_openable.proofs.Lasting.{lasting_may_open}
 use Rattle.cat_reopened.specs.Right.{AreRowsOf}
 use Rattle.cat_reopened.specs.Told.{OpensAs}
-use Rattle.cat_kept_desk.specs.Followed.{one_more}
 use Rattle.cat_transcript.specs.Program.{ruled_after}
 use Rattle.cat_http.specs.declared.message.Message.{Message}
-use Rattle.cat_kept_wire.specs.Wire as kept_wire
+use Rattle.cat_stored.specs.cat_kept_wire.specs.Wire as kept_wire
 use Rattle.cat_requests.specs.Requests.{request_of}
 use Rattle.cat_api.specs.Wire.{wire_after}
 use Rattle.cat_wire.specs.Items.{Item, message, refusal}
@@ -77,9 +76,14 @@ module _ (place : Place) where
   stays k plain line h = h
   stays k memory line h = h
   stays k (cut n) line h = h
-  stays k unkept line h = go (may_change (line_of line))
+  stays k unkept line h = go (may_be_refused (line_of line))
     where
-      go : (b : Bool) → StaysAt (if b then record k { refusals = one_more k.refusals } else record k { ruled = ruled_after layered k.ruled plain line })
+      go : (b : Bool) → StaysAt (if b then one_refused k.ruled k else record k { ruled = ruled_after layered k.ruled plain line })
+      go true = h
+      go false = h
+  stays k (cut_unkept n) line h = go (may_be_cut (line_of line))
+    where
+      go : (b : Bool) → StaysAt (if b then one_refused (ruled_after layered k.ruled (cut n) line) k else record k { ruled = ruled_after layered k.ruled plain line })
       go true = h
       go false = h
 
@@ -140,9 +144,14 @@ module _ (place : Place) where
   message_stays k wire.memory m h = h
   message_stays k (wire.cut n) m h = h
   message_stays k wire.untold m h = h
-  message_stays k wire.unkept m h = go (kept_wire.may_change (request_of m) k.wired.catalogue.state)
+  message_stays k wire.unkept m h = go (kept_wire.may_be_refused (request_of m) k.wired.catalogue.state)
     where
-      go : (b : Bool) → WiredAt (if b then record k { refusals = one_more k.refusals } else record k { wired = wire_after layered k.wired wire.plain m })
+      go : (b : Bool) → WiredAt (if b then kept_wire.one_refused k.wired k else record k { wired = wire_after layered k.wired wire.plain m })
+      go true = h
+      go false = h
+  message_stays k (wire.cut_unkept n) m h = go (kept_wire.may_be_cut (request_of m))
+    where
+      go : (b : Bool) → WiredAt (if b then kept_wire.one_refused (wire_after layered k.wired (wire.cut n) m) k else record k { wired = wire_after layered k.wired wire.plain m })
       go true = h
       go false = h
 
@@ -153,6 +162,7 @@ module _ (place : Place) where
   item_stays k (wire.cut n) (message m) h = message_stays k (wire.cut n) m h
   item_stays k wire.untold (message m) h = message_stays k wire.untold m h
   item_stays k wire.unkept (message m) h = message_stays k wire.unkept m h
+  item_stays k (wire.cut_unkept n) (message m) h = message_stays k (wire.cut_unkept n) m h
   item_stays k w (refusal fault) h = h
 
   items_stay : (k : KeptWired) (items : List Item) (words : List wire.Word) → WiredAt k → WiredAt (after_items (kept_wire_after layered) k items words)

@@ -12,13 +12,12 @@ use Rattle.cat_commands.specs.declared.line.Line.{Line}
 use Rattle.cat_commands.specs.declared.line.Line.TheVariants as asks
 use Rattle.cat_forms.proofs.Given.{given_formed}
 use Rattle.cat_forms.proofs.Ready.{IsReadLine, line_ready}
-use Rattle.cat_kept.specs.Kept.{kept_after, may_change}
-use Rattle.cat_kept.specs.declared.state.KeptState.{KeptState}
-use Rattle.cat_kept_desk.specs.Followed.{one_more}
+use Rattle.cat_stored.specs.cat_kept.specs.Kept.{kept_after, may_be_cut, may_be_refused, one_refused}
+use Rattle.cat_stored.specs.cat_kept.specs.declared.state.KeptState.{KeptState}
 use Rattle.cat_layers.specs.Layered.{layered}
 use Rattle.cat_loop.proofs.Keeping.{Keeps, after_lines-keeps}
 use Rattle.cat_loop.specs.Runs.{after_lines}
-use Rattle.cat_loop.specs.Word.{Word, plain, memory, cut, unkept}
+use Rattle.cat_loop.specs.Word.{Word, plain, memory, cut, unkept, cut_unkept}
 use Rattle.cat_model.specs.Given.{given}
 use Rattle.cat_model.specs.Reply.{next_stitch}
 use Rattle.cat_model.specs.Step.Event.{Mutate, ShelfPut, ShelfDrop, Refresh, Forget, Take, Finish, PutStitch}
@@ -78,10 +77,15 @@ keeps : Keeps (kept_after layered) KeptLasts
 keeps m plain line h = line_lasts m.ruled.orphans m.ruled.session plain line h
 keeps m memory line h = line_lasts m.ruled.orphans m.ruled.session memory line h
 keeps m (cut n) line h = line_lasts m.ruled.orphans m.ruled.session (cut n) line h
-keeps m unkept line h = go (may_change (line_of line))
+keeps m unkept line h = go (may_be_refused (line_of line))
   where
-    go : (b : Bool) → KeptLasts (if b then record m { refusals = one_more m.refusals } else record m { ruled = ruled_after layered m.ruled plain line })
+    go : (b : Bool) → KeptLasts (if b then one_refused m.ruled m else record m { ruled = ruled_after layered m.ruled plain line })
     go true = h
+    go false = line_lasts m.ruled.orphans m.ruled.session plain line h
+keeps m (cut_unkept n) line h = go (may_be_cut (line_of line))
+  where
+    go : (b : Bool) → KeptLasts (if b then one_refused (ruled_after layered m.ruled (cut n) line) m else record m { ruled = ruled_after layered m.ruled plain line })
+    go true = line_lasts m.ruled.orphans m.ruled.session (cut n) line h
     go false = line_lasts m.ruled.orphans m.ruled.session plain line h
 
 pub lines_last : (m : KeptState) (lines : List (List ℕ)) (words : List Word) → KeptLasts m → KeptLasts (after_lines (kept_after layered) m lines words)

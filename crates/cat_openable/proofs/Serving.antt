@@ -11,8 +11,7 @@ use Rattle.cat_desk.specs.Acts.{after_deed, done}
 use Rattle.cat_desk.specs.Deed.{Deed}
 use Rattle.cat_desk.specs.Deed.Deed.{Mutate, ShelfPut, ShelfDrop, Refresh, Forget, ForgetNumber, Take, Finish, TakeStitch, PutStitch, Settle}
 use Rattle.cat_http.specs.declared.message.Message.{Message}
-use Rattle.cat_kept_desk.specs.Followed.{one_more}
-use Rattle.cat_kept_wire.specs.Wire.{KeptWired, kept_wire_after, may_change}
+use Rattle.cat_stored.specs.cat_kept_wire.specs.Wire.{KeptWired, kept_wire_after, may_be_cut, may_be_refused, one_refused}
 use Rattle.cat_layers.specs.Layered.{layered}
 use Rattle.cat_loop.specs.Word as deeds
 use Rattle.cat_model.specs.Step.Event.{Mutate as Mutated, ShelfPut as PutOnShelf, ShelfDrop as DroppedFromShelf, Refresh as Refreshed, Forget as Forgotten, ForgetNumber as NumberForgotten, Take as Taken, Finish as Finished, PutStitch as StitchPut}
@@ -25,7 +24,7 @@ use Rattle.cat_requests.specs.declared.refusal.Refusal.{Refusal}
 use Rattle.cat_requests.specs.declared.request.Request.{Request}
 use Rattle.cat_transcript.specs.Program.{program_settings}
 use Rattle.cat_wire.specs.Items.{Item, message, refusal}
-use Rattle.cat_wire.specs.Worded.{Word, plain, memory, cut, untold, unkept, after_items, item_after}
+use Rattle.cat_wire.specs.Worded.{Word, plain, memory, cut, untold, unkept, cut_unkept, after_items, item_after}
 
 module _ (rule : OrphanRule) where
   -- ---- deeds
@@ -48,6 +47,7 @@ module _ (rule : OrphanRule) where
   deed_lasts now deeds.memory d m g h = h
   deed_lasts now (deeds.cut n) d m g h = done_lasts now (Some n) d m g h
   deed_lasts now deeds.unkept d m g h = done_lasts now None d m g h
+  deed_lasts now (deeds.cut_unkept n) d m g h = done_lasts now None d m g h
 
   -- ---- messages
 
@@ -82,10 +82,15 @@ module _ (rule : OrphanRule) where
   kept_serves k memory m h = message_serves k.wired memory m h
   kept_serves k (cut n) m h = message_serves k.wired (cut n) m h
   kept_serves k untold m h = message_serves k.wired untold m h
-  kept_serves k unkept m h = go (may_change (request_of m) k.wired.catalogue.state)
+  kept_serves k unkept m h = go (may_be_refused (request_of m) k.wired.catalogue.state)
     where
-      go : (b : Bool) → KeptServes (if b then record k { refusals = one_more k.refusals } else record k { wired = wire_after layered k.wired plain m })
+      go : (b : Bool) → KeptServes (if b then one_refused k.wired k else record k { wired = wire_after layered k.wired plain m })
       go true = h
+      go false = message_serves k.wired plain m h
+  kept_serves k (cut_unkept n) m h = go (may_be_cut (request_of m))
+    where
+      go : (b : Bool) → KeptServes (if b then one_refused (wire_after layered k.wired (cut n) m) k else record k { wired = wire_after layered k.wired plain m })
+      go true = message_serves k.wired (cut n) m h
       go false = message_serves k.wired plain m h
 
   item_serves : (k : KeptWired) (w : Word) (item : Item) → KeptServes k → KeptServes (item_after (kept_wire_after layered) k w item)
@@ -95,6 +100,7 @@ module _ (rule : OrphanRule) where
   item_serves k (cut n) (message m) h = kept_serves k (cut n) m h
   item_serves k untold (message m) h = kept_serves k untold m h
   item_serves k unkept (message m) h = kept_serves k unkept m h
+  item_serves k (cut_unkept n) (message m) h = kept_serves k (cut_unkept n) m h
   item_serves k w (refusal fault) h = h
 
   pub items_serve : (k : KeptWired) (items : List Item) (words : List Word) → KeptServes k → KeptServes (after_items (kept_wire_after layered) k items words)

@@ -1,9 +1,9 @@
 -- The states that the program's sessions reach, and those that runs over one store come to.
 use Rattle.std.specs.Prelude.{ℕ, List, [], Option}
 use Rattle.cat_feed.specs.Feed.{begun}
-use Rattle.cat_kept.specs.Kept.{kept_after}
-use Rattle.cat_kept.specs.declared.state.KeptState.{KeptState}
-use Rattle.cat_kept_wire.specs.Wire.{KeptWired, kept_wire_after}
+use Rattle.cat_stored.specs.cat_kept.specs.Kept.{kept_after}
+use Rattle.cat_stored.specs.cat_kept.specs.declared.state.KeptState.{KeptState}
+use Rattle.cat_stored.specs.cat_kept_wire.specs.Wire.{KeptWired, kept_wire_after}
 use Rattle.cat_keeper.specs.Answers.{Are}
 use Rattle.cat_keeper.specs.Store.{Rows}
 use Rattle.cat_keeper.specs.declared.keeper.Place.{Place}

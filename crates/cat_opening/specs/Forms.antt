@@ -8,7 +8,7 @@ use Rattle.cat_tree.specs.Ask.{child_of, depth_of}
 use Rattle.cat_tree.specs.Data.{Data}
 use Rattle.cat_ref.specs.Reference.{described}
 use Rattle.cat_ref.specs.declared.fault.RefFault.{RefFault}
-use Rattle.cat_schema.specs.Rules.{breaches}
+use Rattle.cat_kinds.specs.cat_schema.specs.Rules.{breaches}
 use Rattle.cat_kinds.specs.Kinds.{kind_faults}
 use Rattle.cat_table.specs.Table.{Text, keys, same_text}
 use Rattle.cat_types.specs.declared.work.Output.{Output}

@@ -6,9 +6,9 @@ ghost use Rattle.cat_ref.specs.Reference.{described};
 ghost use Rattle.cat_tree.specs.View.{data_of};
 
 use cat_kinds::answer::{KindAnswer, relations};
+use cat_kinds::cat_schema::rules::check;
 use cat_ref::fault::RefFault;
 use cat_ref::reference::{Ref, ref_of};
-use cat_schema::rules::check;
 use cat_tree::ask::{depth, grandchild};
 use cat_tree::tree::Tree;
 use cat_types::node::Node;

@@ -6,7 +6,7 @@ ghost use Rattle.cat_pages.specs.SeenPage.{items_seen};
 
 use crate::query::Cursor;
 use crate::rank::Ranked;
-use cat_ref::reference::Ref;
+use cat_search::cat_ref::reference::Ref;
 use cat_tree::tree::Tree;
 
 /// The first documents of an order after a place, lent.

@@ -1,7 +1,7 @@
 //! What a query asks for.
 ghost use Rattle.std.specs.Prelude.{◌≤◌};
 
-use cat_ref::reference::Ref;
+use cat_search::cat_ref::reference::Ref;
 use cat_search::condition::Filter;
 use cat_table::listing::{Copied, Listing};
 use cat_tree::text::Text;

@@ -7,7 +7,7 @@ ghost use Rattle.std.specs.Ordering.{is_lt};
 ghost use Rattle.cat_pages.specs.Seen.{place_seen, ranked_seen};
 
 use crate::query::{Cursor, OrderBy, Query};
-use cat_ref::reference::Ref;
+use cat_search::cat_ref::reference::Ref;
 use cat_search::folded::lower;
 use cat_search::values::values_at;
 use cat_tree::text::Text;

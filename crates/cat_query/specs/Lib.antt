@@ -4,3 +4,4 @@ pub mod Cursor
 pub mod SeenQuery
 pub mod Facets
 pub mod Answers
+pub use Rattle.cat_pages

@@ -15,7 +15,7 @@ use Rattle.cat_model.specs.declared.types.Numbered.{Numbered}
 use Rattle.cat_model.specs.declared.types.Origin.{Origin}
 use Rattle.cat_model.specs.declared.types.Row.{Row}
 use Rattle.cat_model.specs.declared.types.State.{State}
-use Rattle.cat_laws.proofs.Replaced.{same_origin-self}
+use Rattle.cat_holding.specs.cat_laws.proofs.Replaced.{same_origin-self}
 use Rattle.cat_reach.specs.Reach.{has}
 
 module _ (o : Origin) (offers : Ref → Option Offered) where

@@ -17,7 +17,7 @@ use Rattle.cat_model.specs.declared.types.ProviderInputs.{ProviderInputs}
 use Rattle.cat_model.specs.declared.types.Row.{Row}
 use Rattle.cat_model.specs.declared.types.Settings.{Settings}
 use Rattle.cat_model.specs.declared.types.State.{State}
-use Rattle.cat_laws.proofs.Holding.{stood}
+use Rattle.cat_holding.specs.cat_laws.proofs.Holding.{stood}
 use Rattle.cat_holding.proofs.Changed.{sound_ready, rows_after}
 use Rattle.cat_holding.proofs.Members.{any_left}
 use Rattle.cat_reach.specs.Reach.{AreSameBeyond, AreSameProvidersBut, given_refs, has, reached}

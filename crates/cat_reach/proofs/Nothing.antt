@@ -16,7 +16,7 @@ use Rattle.cat_model.specs.declared.types.Record.{Record}
 use Rattle.cat_model.specs.declared.types.Settings.{Settings}
 use Rattle.cat_model.specs.declared.types.State.{State}
 use Rattle.cat_model.specs.declared.types.StitchOrder.{StitchOrder}
-use Rattle.cat_laws.proofs.Holding.{stood}
+use Rattle.cat_holding.specs.cat_laws.proofs.Holding.{stood}
 use Rattle.cat_holding.proofs.Changed.{sound_ready}
 use Rattle.cat_reach.specs.Reach.{AreSameBeyond}
 use Rattle.cat_reach.proofs.Within.{nothing_reached}

@@ -17,8 +17,8 @@ use Rattle.cat_model.specs.declared.types.Origin.TheVariants.{Entity}
 use Rattle.cat_model.specs.declared.types.Record.{Record}
 use Rattle.cat_model.specs.declared.types.Settings.{Settings}
 use Rattle.cat_model.specs.declared.types.State.{State}
-use Rattle.cat_laws.proofs.Holding.{stood}
-use Rattle.cat_laws.proofs.Steps.{get-without_key, other_way}
+use Rattle.cat_holding.specs.cat_laws.proofs.Holding.{stood}
+use Rattle.cat_holding.specs.cat_laws.proofs.Steps.{get-without_key, other_way}
 use Rattle.cat_holding.specs.Mend.{IsReady, IsReplaced}
 use Rattle.cat_holding.proofs.Changed.{sound_ready, rows_after}
 use Rattle.cat_holding.proofs.Members.{any_left, any_right}

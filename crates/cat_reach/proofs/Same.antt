@@ -18,8 +18,8 @@ use Rattle.cat_model.specs.declared.types.Orphan.{Orphan}
 use Rattle.cat_model.specs.declared.types.Record.{Record}
 use Rattle.cat_model.specs.declared.types.Row.{Row}
 use Rattle.cat_model.specs.declared.types.State.{State}
-use Rattle.cat_laws.proofs.Holding.{stands, stood, reheld_holders}
-use Rattle.cat_laws.proofs.Replaced.{same_origin-is}
+use Rattle.cat_holding.specs.cat_laws.proofs.Holding.{stands, stood, reheld_holders}
+use Rattle.cat_holding.specs.cat_laws.proofs.Replaced.{same_origin-is}
 use Rattle.cat_holding.specs.Mend.{IsReplaced, WasThere, cut_off, gone}
 use Rattle.cat_holding.proofs.Changed.{sound_ready}
 use Rattle.cat_holding.proofs.Left.{others_stay}

@@ -8,3 +8,6 @@
 pub mod reached;
 mod refs;
 pub mod seeds;
+
+// What this crate stands on and hands on.
+pub use cat_reach;

@@ -1,7 +1,7 @@
 //! What an event reached.
 ghost use Rattle.std.specs.Prelude.{◌≡◌, IfOk, not, option_map};
 ghost use Rattle.std.specs.List.{filter};
-ghost use Rattle.cat_holding.specs.Mend.{gone};
+ghost use Rattle.cat_claims.specs.cat_holding.specs.Mend.{gone};
 ghost use Rattle.cat_model.specs.Catalogue.{held};
 ghost use Rattle.cat_model.specs.Given.{given};
 ghost use Rattle.cat_reach.specs.Reach.{given_refs, has_lost, is_lost, own_refs, reached};

@@ -14,3 +14,6 @@ pub mod fault;
 pub mod names;
 pub mod reference;
 pub mod split;
+
+// What this crate stands on and hands on.
+pub use cat_tree;

@@ -1,2 +1,3 @@
 pub mod Renewed
 pub mod Places
+pub use Rattle.cat_reopened

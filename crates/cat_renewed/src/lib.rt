@@ -20,3 +20,6 @@ pub mod reached;
 mod records;
 pub mod renew;
 mod row;
+
+// What this crate stands on and hands on.
+pub use cat_reopened;

@@ -13,7 +13,7 @@ use Rattle.cat_tree.specs.Ask.{depth_of}
 use Rattle.cat_tree.specs.Data.{Data}
 use Rattle.cat_ref.specs.Reference.{described}
 use Rattle.cat_schema.specs.Rules.{breaches}
-use Rattle.cat_kinds.specs.Kinds.{kind_faults}
+use Rattle.cat_opening.specs.cat_kinds.specs.Kinds.{kind_faults}
 use Rattle.cat_table.specs.Table.{Text, get, keys, same_text, text_cmp}
 use Rattle.cat_table.proofs.Tables.{text_antisymmetric, text_total}
 use Rattle.cat_types.specs.declared.work.Output.{Output}

@@ -6,7 +6,7 @@ use Rattle.cat_tree.specs.Proper.{IsProper}
 use Rattle.cat_ref.specs.Names.{is_shelf_name}
 use Rattle.cat_ref.specs.Reference.{described}
 use Rattle.cat_schema.specs.Rules.{breaches}
-use Rattle.cat_kinds.specs.Kinds.{kind_faults}
+use Rattle.cat_opening.specs.cat_kinds.specs.Kinds.{kind_faults}
 use Rattle.cat_table.specs.Table.{Text, get, over, text_cmp}
 use Rattle.cat_types.specs.declared.work.Output.{Output}
 use Rattle.cat_keeper.specs.Store.{Rows}

@@ -13,7 +13,7 @@ use Rattle.cat_commands.specs.Lines.{line_of}
 use Rattle.cat_commands.specs.declared.line.Line.{Line}
 use Rattle.cat_commands.specs.declared.line.Line.TheVariants as asks
 use Rattle.cat_commands.specs.declared.fault.LineFault.{LineFault}
-use Rattle.cat_loop.specs.Word.{Word, plain, memory, cut, unkept}
+use Rattle.cat_loop.specs.Word.{Word, plain, memory, cut, unkept, cut_unkept}
 use Rattle.cat_loop.specs.Runs.{line_after, after_lines}
 use Rattle.cat_loop.specs.Lines.{longest_line}
 use Rattle.cat_model.specs.Catalogue.{Rules}
@@ -115,6 +115,7 @@ module _ (rules : Rules) (s : Settings) where
     line_above m memory line = le_refl _
     line_above m (cut n) line = either_above (nat_lt longest_line (length line)) m _ (after_above m (cut n) line)
     line_above m unkept line = either_above (nat_lt longest_line (length line)) m _ (after_above m unkept line)
+    line_above m (cut_unkept i) line = either_above (nat_lt longest_line (length line)) m _ (after_above m (cut_unkept i) line)
 
     pub lines_above : (m : SessionState) (lines : List (List ℕ)) (words : List Word) → Above m.state (after_lines (session_after rules s) m lines words).state
     lines_above m [] words = le_refl _

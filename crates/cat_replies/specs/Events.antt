@@ -90,6 +90,10 @@ settled n = line (codes "settled " ∷ decimal n.rounds ∷ codes " " ∷ decima
 abbrev pub cut_by_memory : ℕ → List ℕ
 cut_by_memory events = line (codes "cut " ∷ decimal events ∷ codes " memory" ∷ [])
 
+-- a settle was cut where what follows its first events wasn't kept, and just these stand
+abbrev pub cut_by_keeper : ℕ → List ℕ
+cut_by_keeper events = line (codes "cut " ∷ decimal events ∷ codes " keeper" ∷ [])
+
 -- a settle was cut where its next event would have drawn a number past the end
 abbrev pub cut_by_counter : ℕ → Counter → List ℕ
 cut_by_counter events counter = line (codes "cut " ∷ decimal events ∷ codes " spent " ∷ counter_text counter ∷ [])

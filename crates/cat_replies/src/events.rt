@@ -194,6 +194,21 @@ pub fn push_cut_by_memory(out: &mut Vec<u8>, events: u64) -> Result<(), AllocErr
     )
 }
 
+/// Appends that a settle was cut behind its first events, since what follows them wasn't kept.
+pub fn push_cut_by_keeper(out: &mut Vec<u8>, events: u64) -> Result<(), AllocError>
+    ensures appends { Appends out.old out.new result (spec.cut_by_keeper events) }
+    ensures short { vec_len out.old + 128 ≤ vec_capacity out.old → IsOk result }
+{
+    push_line(
+        out,
+        &[
+            Piece::Text("cut "),
+            Piece::Number(events),
+            Piece::Text(" keeper"),
+        ],
+    )
+}
+
 /// Appends that a settle was cut behind its first events by a counter at its end.
 pub fn push_cut_by_counter(
     out: &mut Vec<u8>,

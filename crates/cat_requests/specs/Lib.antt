@@ -4,3 +4,4 @@ pub mod Refusals
 pub mod Bodies
 pub mod Requests
 pub mod Answers
+pub use Rattle.cat_replies

@@ -14,7 +14,7 @@ use Rattle.cat_replies.specs.Events.{counter_text}
 use Rattle.cat_requests.specs.declared.refusal.Methods.{Methods}
 use Rattle.cat_requests.specs.declared.refusal.Methods.TheVariants as methods
 use Rattle.cat_requests.specs.declared.refusal.Refusal.{Refusal}
-use Rattle.cat_requests.specs.declared.refusal.Refusal.TheVariants.{Route, Method, Entity, Shelf, Name, Text, Reference, Input, Query, Facet, Place, Gone, Ahead, OldSerial, TooLarge, Spent, CutByCounter, CutByMemory, SpentFeed, Reply, Keeper, NoMemory}
+use Rattle.cat_requests.specs.declared.refusal.Refusal.TheVariants.{Route, Method, Entity, Shelf, Name, Text, Reference, Input, Query, Facet, Place, Gone, Ahead, OldSerial, TooLarge, Spent, CutByCounter, CutByMemory, CutByKeeper, SpentFeed, Reply, Keeper, NoMemory}
 
 -- the methods of a path
 abbrev pub methods_of : Methods → List (List ℕ)
@@ -48,6 +48,7 @@ status_of (TooLarge sum) = 413
 status_of (Spent counter) = 500
 status_of (CutByCounter events counter) = 500
 status_of (CutByMemory events) = 507
+status_of (CutByKeeper events) = 503
 status_of SpentFeed = 500
 status_of Reply = 500
 status_of Keeper = 503
@@ -97,6 +98,7 @@ words_of (TooLarge sum) = codes "too_large " ∷ decimal sum ∷ []
 words_of (Spent counter) = codes "spent " ∷ counter_text counter ∷ []
 words_of (CutByCounter events counter) = codes "spent " ∷ counter_text counter ∷ codes " " ∷ decimal events ∷ []
 words_of (CutByMemory events) = codes "memory " ∷ decimal events ∷ []
+words_of (CutByKeeper events) = codes "keeper " ∷ decimal events ∷ []
 words_of SpentFeed = codes "spent feed" ∷ []
 words_of Reply = codes "reply" ∷ []
 words_of Keeper = codes "keeper" ∷ []

@@ -194,6 +194,7 @@ fn push_refusal(out: &mut Vec<u8>, refusal: Refusal) -> Result<(), AllocError>
         Refusal::Spent(counter) => push_spent(out, counter),
         Refusal::CutByCounter(events, counter) => push_cut(out, events, counter),
         Refusal::CutByMemory(events) => push_at(out, 507, "memory ", events),
+        Refusal::CutByKeeper(events) => push_at(out, 503, "keeper ", events),
         Refusal::SpentFeed => push_words(out, 500, "spent feed"),
         Refusal::Reply => push_words(out, 500, "reply"),
         Refusal::Keeper => push_words(out, 503, "keeper"),
@@ -278,7 +279,7 @@ fn status(refusal: Refusal) -> u16
         Refusal::TooLarge(_) => 413,
         Refusal::Spent(_) | Refusal::CutByCounter(_, _) | Refusal::SpentFeed | Refusal::Reply =>
             500,
-        Refusal::Keeper => 503,
+        Refusal::CutByKeeper(_) | Refusal::Keeper => 503,
         Refusal::CutByMemory(_) | Refusal::NoMemory => 507,
     }
 }

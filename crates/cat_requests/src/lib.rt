@@ -15,3 +15,6 @@ pub mod path;
 pub mod refusal;
 pub mod request;
 pub mod uid;
+
+// What this crate stands on and hands on.
+pub use cat_replies;

@@ -60,6 +60,8 @@ pub enum Refusal {
     CutByCounter(u64, Counter),
     /// A settle was cut after so many events, for want of memory.
     CutByMemory(u64),
+    /// A settle was cut after so many events, since what follows them couldn't be kept.
+    CutByKeeper(u64),
     /// The feed has no numbers left.
     SpentFeed,
     /// The desk answered what isn't asked of it.

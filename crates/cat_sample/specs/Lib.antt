@@ -1,2 +1,3 @@
 pub mod Sample
 pub mod Summary
+pub use Rattle.cat_core

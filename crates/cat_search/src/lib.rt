@@ -28,3 +28,6 @@ pub mod sets;
 pub mod terms;
 pub mod values;
 pub mod walk;
+
+// What this crate stands on and hands on.
+pub use cat_index::{cat_ref, cat_types};

@@ -7,14 +7,14 @@ use Rattle.cat_table.specs.Table.{Text, find}
 use Rattle.cat_types.specs.declared.input.Mutation.{Mutation}
 use Rattle.cat_commands.specs.declared.line.Line.{Line}
 use Rattle.cat_commands.specs.declared.line.Line.TheVariants as asks
-use Rattle.cat_core.specs.Answer.{stop_answer}
-use Rattle.cat_core.specs.declared.ledger.Ledger.{Ledger}
+use Rattle.cat_desk.specs.cat_core.specs.Answer.{stop_answer}
+use Rattle.cat_desk.specs.cat_core.specs.declared.ledger.Ledger.{Ledger}
 use Rattle.cat_desk.specs.Acts as desk
 use Rattle.cat_desk.specs.Deed.{Deed}
 use Rattle.cat_desk.specs.Deed.Deed.{Mutate, ShelfPut, ShelfDrop, Refresh, Forget, Take, Finish, PutStitch, Settle}
 use Rattle.cat_desk.specs.declared.command.Reply.{Reply}
 use Rattle.cat_desk.specs.declared.command.Reply.TheVariants as replies
-use Rattle.cat_loop.specs.Word.{Word, IsActing, plain, memory, cut, unkept}
+use Rattle.cat_loop.specs.Word.{Word, IsActing, plain, memory, cut, unkept, cut_unkept}
 use Rattle.cat_model.specs.Catalogue.{Rules}
 use Rattle.cat_model.specs.Given.{given}
 use Rattle.cat_model.specs.Reply.{acted, finished, placed, taken}
@@ -67,6 +67,7 @@ settle_line plain acts p = stop_line p p.stop
 settle_line memory acts p = absurd acts
 settle_line (cut n) acts p = refl
 settle_line unkept acts p = stop_line p p.stop
+settle_line (cut_unkept i) acts p = stop_line p p.stop
 
 -- ---- lines and deeds
 

@@ -3,14 +3,14 @@ use Rattle.std.proofs.Common.{◌≡◌, ℕ, List, refl, sym, ap, ◌∙◌, su
 use Rattle.std.specs.declared.option.Option.{Option}
 use Rattle.std.specs.declared.option.Option.TheVariants.{None, Some}
 use Rattle.std.specs.declared.result.Result.{Result}
-use Rattle.cat_core.specs.Answer.{core_fault, stop_answer}
-use Rattle.cat_core.specs.declared.ledger.Ledger.{Ledger}
+use Rattle.cat_desk.specs.cat_core.specs.Answer.{core_fault, stop_answer}
+use Rattle.cat_desk.specs.cat_core.specs.declared.ledger.Ledger.{Ledger}
 use Rattle.cat_desk.specs.Acts.{Acts, ActsOnce, after_deed, answered, deed_reply, or_refused, settle_reply, settled_as}
 use Rattle.cat_desk.specs.Deed.{Deed}
 use Rattle.cat_desk.specs.Deed.Deed.{Mutate, ShelfPut, ShelfDrop, Refresh, Forget, ForgetNumber, Take, Finish, TakeStitch, PutStitch, Settle}
 use Rattle.cat_desk.specs.declared.command.Reply.{Reply}
 use Rattle.cat_desk.specs.declared.command.Reply.TheVariants as replies
-use Rattle.cat_loop.specs.Word.{Word, plain, memory, cut, unkept}
+use Rattle.cat_loop.specs.Word.{Word, plain, memory, cut, unkept, cut_unkept}
 use Rattle.cat_model.specs.Catalogue.{Rules}
 use Rattle.cat_model.specs.Reply.{acted, finished, placed, taken}
 use Rattle.cat_model.specs.Settle.{try_settle}
@@ -98,12 +98,14 @@ module _ (rules : Rules) (now : ℕ) (d : Deed) (old new : Ledger) (reply : Repl
   shows_none memory answer h = ap shown answer
   shows_none (cut n) answer h = ap shown answer ∙ answer_short rules old.settings now (Some n) old.state d h
   shows_none unkept answer h = ap shown answer ∙ answer_short rules old.settings now None old.state d h
+  shows_none (cut_unkept i) answer h = ap shown answer ∙ answer_short rules old.settings now None old.state d h
 
   unsaid : (word : Word) → new.state ≡ after_deed rules old.settings now word d old.state → reply ≡ deed_reply rules old.settings now word d old.state → (IsSaid reply → ⊥) → Stays old new
   unsaid plain state answer no_one = absurd (no_one (subst IsSaid (sym answer) (answer_said rules old.settings now None old.state d)))
   unsaid memory state answer no_one = record { state = state; settings = same }
   unsaid (cut n) state answer no_one = absurd (no_one (subst IsSaid (sym answer) (answer_said rules old.settings now (Some n) old.state d)))
   unsaid unkept state answer no_one = absurd (no_one (subst IsSaid (sym answer) (answer_said rules old.settings now None old.state d)))
+  unsaid (cut_unkept i) state answer no_one = absurd (no_one (subst IsSaid (sym answer) (answer_said rules old.settings now None old.state d)))
 
   said : (word : Word) → new.state ≡ after_deed rules old.settings now word d old.state → reply ≡ deed_reply rules old.settings now word d old.state → IsSaid reply
       → (text : List ℕ) → text ≡ reply_line reply → CarriesDeed rules now d old new text
@@ -111,6 +113,7 @@ module _ (rules : Rules) (now : ℕ) (d : Deed) (old new : Ledger) (reply : Repl
   said memory state answer h text told = absurd (subst IsSaid answer h)
   said (cut n) state answer h text told = record { word = cut n; acts = tt; state = state; settings = same; says = told ∙ ap reply_line answer }
   said unkept state answer h text told = record { word = plain; acts = tt; state = state; settings = same; says = told ∙ ap reply_line answer }
+  said (cut_unkept i) state answer h text told = record { word = plain; acts = tt; state = state; settings = same; says = told ∙ ap reply_line answer }
 
 module _ (rules : Rules) (now : ℕ) (d : Deed) (old new : Ledger) (reply : Reply) where
   -- the reply to a short deed shows no reference

@@ -3,12 +3,12 @@ use Rattle.std.proofs.Common.{◌≡◌, ◌≤◌, ℕ, List, length, arith, re
 use Rattle.std.specs.declared.option.Option.{Option}
 use Rattle.std.specs.declared.option.Option.TheVariants.{None, Some}
 use Rattle.cat_table.specs.Table.{Text}
-use Rattle.cat_core.specs.declared.ledger.Ledger.{Ledger}
+use Rattle.cat_desk.specs.cat_core.specs.declared.ledger.Ledger.{Ledger}
 use Rattle.cat_desk.specs.Acts.{Acts, deed_reply, or_refused}
 use Rattle.cat_desk.specs.Deed.Deed.{Take, TakeStitch}
 use Rattle.cat_desk.specs.declared.command.Reply.{Reply}
 use Rattle.cat_desk.specs.declared.command.Reply.TheVariants as replies
-use Rattle.cat_loop.specs.Word.{Word, plain, memory, cut, unkept}
+use Rattle.cat_loop.specs.Word.{Word, plain, memory, cut, unkept, cut_unkept}
 use Rattle.cat_model.specs.Catalogue.{Rules}
 use Rattle.cat_model.specs.Reply as model
 use Rattle.cat_model.specs.Settle.{order, order_with}
@@ -36,6 +36,7 @@ module _ (rules : Rules) (now : ℕ) (old : Ledger) (reply : Reply) where
   order_by memory answer h = absurd (subst IsSaid answer h)
   order_by (cut n) answer h = ap order_in answer ∙ order_of (refusal rules old.settings (Taken now) old.state) (model.taken rules old.settings now old.state)
   order_by unkept answer h = ap order_in answer ∙ order_of (refusal rules old.settings (Taken now) old.state) (model.taken rules old.settings now old.state)
+  order_by (cut_unkept i) answer h = ap order_in answer ∙ order_of (refusal rules old.settings (Taken now) old.state) (model.taken rules old.settings now old.state)
 
   -- the order that the reply to a take gives
   pub order_given : (new : Ledger) → Acts rules now Take old new reply → IsSaid reply → order_in reply ≡ order_taken rules now old
@@ -46,6 +47,7 @@ module _ (rules : Rules) (now : ℕ) (old : Ledger) (reply : Reply) where
   stitch_by after memory answer h = absurd (subst IsSaid answer h)
   stitch_by after (cut n) answer h = ap stitch_in answer
   stitch_by after unkept answer h = ap stitch_in answer
+  stitch_by after (cut_unkept i) answer h = ap stitch_in answer
 
   -- the stitch order that the reply to a take of one gives
   pub stitch_given : (after : ℕ) (new : Ledger) → Acts rules now (TakeStitch after) old new reply → IsSaid reply → stitch_in reply ≡ model.next_stitch rules old.state after
@@ -76,6 +78,7 @@ module _ (rules : Rules) (now : ℕ) (old : Ledger) (reply : Reply) where
   fits_by memory answer = subst (λ r. shown r ≤ order_length (next_taken now old.state)) (sym answer) (omega arith)
   fits_by (cut n) answer = subst (λ r. shown r ≤ order_length (next_taken now old.state)) (sym answer) (event_fits (refusal rules old.settings (Taken now) old.state) (model.taken rules old.settings now old.state) (order_length (next_taken now old.state)) (given_fits rules (change rules old.settings (Taken now) old.state) (next_taken now old.state)))
   fits_by unkept answer = subst (λ r. shown r ≤ order_length (next_taken now old.state)) (sym answer) (event_fits (refusal rules old.settings (Taken now) old.state) (model.taken rules old.settings now old.state) (order_length (next_taken now old.state)) (given_fits rules (change rules old.settings (Taken now) old.state) (next_taken now old.state)))
+  fits_by (cut_unkept i) answer = subst (λ r. shown r ≤ order_length (next_taken now old.state)) (sym answer) (event_fits (refusal rules old.settings (Taken now) old.state) (model.taken rules old.settings now old.state) (order_length (next_taken now old.state)) (given_fits rules (change rules old.settings (Taken now) old.state) (next_taken now old.state)))
 
   -- the reply to a take shows no longer reference than that of the record that is due first
   pub take_fits : (new : Ledger) → Acts rules now Take old new reply → shown reply ≤ order_length (next_taken now old.state)

@@ -25,6 +25,7 @@ pub(crate) fn order_numbered(orders: &[Order], token: u64) -> Option<&Order>
 /// Room for the reply to a take that gives the order of this reference, or none.
 pub(crate) fn room_for(alloc: Global, reference: &Option<Ref>) -> Result<Vec<u8>, AllocError>
     ensures empty { IfOk result (λ out. out.items ≡ []) }
+    ensures len { IfOk result (λ out. vec_len out ≡ 0) }
     ensures room { IfOk result (λ out. 128 + order_length reference.now ≤ vec_capacity out) }
 {
     match reference {

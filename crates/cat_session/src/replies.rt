@@ -5,12 +5,13 @@ ghost use Rattle.cat_session.specs.Replies.{IsEnded, IsLineRefusal, IsSaid, cut_
 ghost use Rattle.cat_desk.specs.declared.command.Reply.TheVariants as replies;
 
 use cat_commands::fault::LineFault;
-use cat_core::fault::{CoreFault, Cut};
+use cat_desk::cat_core::fault::{CoreFault, Cut};
 use cat_desk::command::{Asked, Reply};
 use cat_model::types::Fault;
 use cat_replies::events::{
-    push_acted, push_changed, push_cut_by_counter, push_cut_by_memory, push_finished, push_nothing,
-    push_order, push_placed, push_refused, push_settled, push_ticket, push_unknown,
+    push_acted, push_changed, push_cut_by_counter, push_cut_by_keeper, push_cut_by_memory,
+    push_finished, push_nothing, push_order, push_placed, push_refused, push_settled, push_ticket,
+    push_unknown,
 };
 use cat_replies::faults::{
     push_bad_arguments, push_bad_word, push_long_line, push_no_facet, push_no_mutation,
@@ -48,10 +49,10 @@ fn push_cut(out: &mut Vec<u8>, cut: Cut) -> Result<(), AllocError>
 {
     match cut.fault {
         CoreFault::Spent(counter) => push_cut_by_counter(out, cut.events, counter),
+        CoreFault::Keeper => push_cut_by_keeper(out, cut.events),
         CoreFault::OldSerial(_)
         | CoreFault::NotFound
         | CoreFault::TooLarge(_)
-        | CoreFault::Keeper
         | CoreFault::NoMemory => push_cut_by_memory(out, cut.events),
     }
 }

@@ -1,25 +1,27 @@
 //! A session's state, and its answer to a line.
-ghost use Rattle.std.specs.Prelude.{◌≡◌, ◌<◌, ◌^◌, [], IfOk, IsTrue, OnErr, option_map};
+ghost use Rattle.std.specs.Prelude.{◌≡◌, ◌<◌, ◌≤◌, ◌-◌, ◌^◌, [], IfOk, IsTrue, OnErr, option_map};
+ghost use Rattle.std.specs.declared.option.Option.TheVariants.{Some};
 ghost use Rattle.std.specs.FinMap.Entries.{is_sorted};
 ghost use Rattle.cat_commands.specs.declared.line.Line.TheVariants as asks;
 ghost use Rattle.cat_commands.specs.Ready.{IsReady};
 ghost use Rattle.cat_desk.specs.Deed.{Deed, deed_of};
-ghost use Rattle.cat_loop.specs.Word.{AnswersLine};
+ghost use Rattle.cat_loop.specs.Word.{AnswersLine, cut};
+ghost use Rattle.cat_model.specs.Settle.{try_settle};
 ghost use Rattle.cat_model.specs.Sound.{AreSmall, Sound};
 ghost use Rattle.cat_model.specs.Step.{next_taken};
 ghost use Rattle.cat_session.specs.Carried.{Carries, CarriesDeed, IsShort, Stays, order_taken};
 ghost use Rattle.cat_session.specs.Replies.{IsLineRefusal};
 ghost use Rattle.cat_transcript.specs.Program.{program_settings, ruled_after, ruled_reply, session_start};
 ghost use Rattle.cat_table.specs.Table.{text_cmp};
-ghost use Rattle.cat_transcript.specs.Session.{add_order, order_numbered};
+ghost use Rattle.cat_transcript.specs.Session.{add_order, after_reading, order_numbered};
 
 use crate::orders::{keep, keep_stitch, order_in, order_numbered, room_for, stitch_in};
 use crate::replies::{ROOM, ended, line_refused, push_reply, unknown};
 use cat_commands::fault::LineFault;
 use cat_commands::line::Line;
 use cat_commands::read::read_line;
-use cat_core::catalogue::{Catalogue, Done, Saved, Stitched};
-use cat_core::extra::take_ref;
+use cat_desk::cat_core::catalogue::{Catalogue, Done, Saved, Stitched};
+use cat_desk::cat_core::extra::take_ref;
 use cat_desk::command::Command;
 use cat_desk::desk::Desk;
 use cat_desk::timed::Timed;
@@ -199,6 +201,16 @@ impl<L: Layers> Session<L> {
         ensures { self.new ≡ record self.old { session = record self.old.session { state = saved } } }
     {
         self.desk.put_back(saved);
+    }
+
+    /// Does the first events of a settle, `most` of them at most, and gives how many stand (`Catalogue::settle_within`).
+    pub fn settle_within(&mut self, most: u64) -> u64
+        requires { most < 2 ^ 64 - 1 }
+        ensures most { result ≤ most }
+        ensures state { self.new ≡ record self.old { session = after_reading L.rules (program_settings self.old.orphans) (cut result) asks.Settle self.old.session } }
+        ensures events { (try_settle L.rules (program_settings self.old.orphans) self.old.session.now (Some result) self.old.session.state).events ≡ result }
+    {
+        self.desk.settle_within(self.alloc, most)
     }
 
     /// The reply to a line that is no command. The only error is want of memory.

@@ -1,5 +1,5 @@
 -- What a call of an event makes of a progress, and what holds after a take.
-use Rattle.std.proofs.Common.{◌≡◌, ℕ, ◌+◌, ◌^◌, ◌-◌, ◌<◌, Bool, true, false, cond, [], ◌∷◌, refl, sym, ap, subst, ◌∙◌, is_some}
+use Rattle.std.proofs.Common.{arith, ◌≡◌, ℕ, ◌+◌, ◌^◌, ◌-◌, ◌<◌, ◌≤◌, Bool, true, false, cond, [], ◌∷◌, refl, sym, ap, subst, ◌∙◌, is_some}
 use Rattle.std.specs.declared.option.Option.{Option}
 use Rattle.std.specs.declared.option.Option.TheVariants.{None, Some}
 use Rattle.std.specs.declared.result.Result.{Result}
@@ -8,7 +8,7 @@ use Rattle.std.specs.Option.{option_and_then}
 use Rattle.cat_table.specs.Table.{get, put, same_text, text_cmp}
 use Rattle.cat_table.proofs.Tables.{text_total, text_antisymmetric, same_is, find-put_same, find-put_other}
 use Rattle.cat_links.specs.Links.{Emitted}
-use Rattle.cat_frame.specs.Linked.{AreLinked}
+use Rattle.cat_events.specs.cat_frame.specs.Linked.{AreLinked}
 use Rattle.cat_model.specs.declared.types.Fault.{Fault}
 use Rattle.cat_model.specs.declared.types.Progress.{Progress}
 use Rattle.cat_model.specs.declared.types.Record.{Record}
@@ -19,14 +19,14 @@ use Rattle.cat_model.specs.Settle.{try_event}
 use Rattle.cat_model.specs.Sound.{AreOrdered, AreSmall, Sound}
 use Rattle.cat_model.specs.Step.{Event, change, leased, refusal, step, take}
 use Rattle.cat_model.specs.Step.Event.{TakeAt}
-use Rattle.cat_laws.proofs.Ordered.{step_ordered}
-use Rattle.cat_laws.proofs.Steps.{run_kept, step_small}
+use Rattle.cat_events.specs.cat_laws.proofs.Ordered.{step_ordered}
+use Rattle.cat_events.specs.cat_laws.proofs.Steps.{run_kept, step_small}
 use Rattle.cat_events.specs.Coming.{IsSteady, came_fault, came_state}
 use Rattle.cat_events.specs.Stepped.{come_to, stepped}
 use Rattle.cat_events.specs.declared.stepped.Stepped.{Stepped}
 use Rattle.cat_events.specs.declared.stepped.Stepped.TheVariants.{Refused, Acts}
 use Rattle.cat_settle.specs.Part.{Came, Goes, IsCut, moved, moved_in, noted}
-use Rattle.cat_settle.proofs.Parts.{cut_here, event_done, event_goes, rests}
+use Rattle.cat_settle.proofs.Parts.{cut_here, event_done, event_goes, event_within, rests}
 use Rattle.cat_settle.proofs.Stays.{event_stays}
 
 -- an event that is counted, or that stops the settle, moves it
@@ -56,9 +56,13 @@ module _ (rules : Rules) (s : Settings) (e : Event) (p q : Progress) (none : is_
   called_came (Ok x) is = event_done rules s e p (come_to rules s e p.state) q refl is none
   called_came (Err x) is = subst (IsCut (λ limit. try_event rules s limit e p)) (sym is) (cut_here (λ limit x. try_event rules s limit e x) (event_stays rules s e) p)
 
-  pub called_goes : {A E : Type 0} (r : Result A E) → p.events < 2 ^ 64 - 2 → q ≡ moved_in r e (come_to rules s e p.state) p → Goes rules p q
-  called_goes (Ok x) room is = event_goes rules s e p (come_to rules s e p.state) q refl is none room
-  called_goes (Err x) room is = subst (Goes rules p) (sym is) (rests rules p)
+  pub called_goes : {A E : Type 0} (r : Result A E) → q ≡ moved_in r e (come_to rules s e p.state) p → Goes rules p q
+  called_goes (Ok x) is = event_goes rules s e p (come_to rules s e p.state) q refl is none
+  called_goes (Err x) is = subst (Goes rules p) (sym is) (rests rules p)
+
+  pub called_within : {A E : Type 0} (r : Result A E) (most : ℕ) → p.events < most → q ≡ moved_in r e (come_to rules s e p.state) p → q.events ≤ most
+  called_within (Ok x) most room is = event_within rules s e p (come_to rules s e p.state) q refl is none most room
+  called_within (Err x) most room is = let same : q.events ≡ p.events = ap (λ (x : Progress). x.events) is in omega arith
 
 -- ---- a take
 

@@ -15,7 +15,7 @@ use Rattle.cat_model.specs.Catalogue.{Rules}
 use Rattle.cat_model.specs.Settle.{after_refusal, counted, is_full, try_event}
 use Rattle.cat_model.specs.Sound.{Sound}
 use Rattle.cat_model.specs.Step.{Event, change, refusal, step}
-use Rattle.cat_laws.proofs.Steps.{run_kept}
+use Rattle.cat_events.specs.cat_laws.proofs.Steps.{run_kept}
 use Rattle.cat_events.specs.Stepped.{come_to, stepped}
 use Rattle.cat_events.specs.declared.stepped.Stepped.{Stepped}
 use Rattle.cat_settle.specs.Part.{Part, IsDone, IsCut, Came, Goes, moved}
@@ -96,12 +96,11 @@ module _ (rules : Rules) (f : Part) (g : Option ℕ → Progress → Progress) (
   done_then (Err e) h = done_cut h
 
 pub rests : (rules : Rules) (p : Progress) → Goes rules p p
-rests rules p = record { events = λ small. le_refl _; few = λ h. h; sound = λ h. h; stopped = λ h. record { state = refl; events = refl; stop = refl } }
+rests rules p = record { events = λ small. le_refl _; sound = λ h. h; stopped = λ h. record { state = refl; events = refl; stop = refl } }
 
 pub goes_on : (rules : Rules) (p q r : Progress) → Goes rules p q → Goes rules q r → Goes rules p r
 goes_on rules p q r a b = record {
   events = λ small. let y = b.events small in let x = a.events (omega arith) in omega arith;
-  few = λ h. b.few (a.few h);
   sound = λ h. b.sound (a.sound h);
   stopped = λ h.
       let x = a.stopped h in
@@ -169,16 +168,19 @@ module _ (rules : Rules) (s : Settings) (e : Event) (p : Progress) where
     more None c small = omega arith
     more (Some x) c small = le_refl _
 
-    fewer : (v : Option Fault) (c : State) → p.events < 2 ^ 64 - 2 → (moved e (stepped v c) p).events < 2 ^ 64 - 1
-    fewer None c room = omega arith
-    fewer (Some x) c room = omega arith
+    -- an event that stands is one more
+    within : (most : ℕ) (v : Option Fault) (c : State) → p.events < most → (moved e (stepped v c) p).events ≤ most
+    within most None c room = omega arith
+    within most (Some x) c room = omega arith
 
-    pub event_goes : p.events < 2 ^ 64 - 2 → Goes rules p q
-    event_goes room =
+    pub event_within : (most : ℕ) → p.events < most → q.events ≤ most
+    event_within most room = subst (λ (x : Progress). x.events ≤ most) is_moved (within most (refusal rules s e p.state) (change rules s e p.state) room)
+
+    pub event_goes : Goes rules p q
+    event_goes =
         subst (Goes rules p) is_moved
         (record {
           events = more (refusal rules s e p.state) (change rules s e p.state);
-          few = λ h. fewer (refusal rules s e p.state) (change rules s e p.state) room;
           sound = λ h. kept_in (Sound rules) h (refusal rules s e p.state) refl (run_kept rules s (e ∷ []) p.state h);
           stopped = λ h. absurd (true≢false (sym h ∙ none));
         })
@@ -210,4 +212,4 @@ came_same (Err x) f g e new h = same_cut f g e new h
 
 -- rounds are counted beside what goes
 pub counted_goes : (rules : Rules) (p q : Progress) (k : ℕ) → p.stop ≡ None → Goes rules (record p { rounds = k }) q → Goes rules p q
-counted_goes rules p q k none h = record { events = h.events; few = h.few; sound = h.sound; stopped = λ s. absurd (true≢false (sym s ∙ ap is_some none)) }
+counted_goes rules p q k none h = record { events = h.events; sound = h.sound; stopped = λ s. absurd (true≢false (sym s ∙ ap is_some none)) }

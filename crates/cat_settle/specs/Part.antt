@@ -56,10 +56,9 @@ pub record Rests (old new : Progress) : Type 0 where
   pub events : new.events ≡ old.events
   pub stop : new.stop ≡ old.stop
 
--- no event is undone, no more stand than are counted, what holds between two events stays, and nothing happens after a stop
+-- no event is undone, what holds between two events stays, and nothing happens after a stop
 pub record Goes (rules : Rules) (old new : Progress) : Type 0 where
   pub events : new.events < 2 ^ 64 - 1 → old.events ≤ new.events
-  pub few : old.events < 2 ^ 64 - 1 → new.events < 2 ^ 64 - 1
   pub sound : Sound rules old.state → Sound rules new.state
   pub stopped : is_some old.stop ≡ true → Rests old new
 

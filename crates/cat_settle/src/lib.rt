@@ -10,3 +10,7 @@ pub mod rounds;
 pub mod settle;
 pub mod stitches;
 pub mod turn;
+
+// What this crate stands on and hands on.
+pub use cat_events;
+pub use cat_events::{cat_frame, cat_hold, cat_laws};

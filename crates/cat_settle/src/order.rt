@@ -7,12 +7,12 @@ ghost use Rattle.cat_model.specs.declared.types.State.{State as StateValue};
 ghost use Rattle.cat_model.specs.Catalogue.{Rules, parts};
 ghost use Rattle.cat_model.specs.Settle.{counted, is_due, mark_order, order, order_with, stitch_order};
 ghost use Rattle.cat_model.specs.Step.Event.{Finish, PutStitch, TakeAt};
-ghost use Rattle.cat_frame.specs.Linked.{AreLinked, AreRecorded};
+ghost use Rattle.cat_events.specs.cat_frame.specs.Linked.{AreLinked, AreRecorded};
 ghost use Rattle.cat_settle.specs.Part.{noted};
 
-use cat_frame::parts::present_parts;
-use cat_hold::layers::Layers;
-use cat_hold::parts::work_of;
+use cat_events::cat_frame::parts::present_parts;
+use cat_events::cat_hold::layers::Layers;
+use cat_events::cat_hold::parts::work_of;
 use cat_links::links::Links;
 use cat_model::types::{Fault, Lease, Order, Progress, Record, State, StitchOrder, Stop};
 use cat_ref::reference::Ref;
@@ -21,7 +21,7 @@ use cat_types::parts::Parts;
 use cat_types::work::Work;
 use std::alloc::{AllocError, Global};
 
-/// A settle that comes to so many events is cut as for want of memory. None does: each lease draws a token below 2^59.
+/// A settle without a limit of its own that comes to so many events is cut as for want of memory. None does: each lease draws a token below 2^59.
 pub const MOST_EVENTS: u64 = u64::MAX - 1;
 
 /// One more, up to the greatest number of 64 bits.

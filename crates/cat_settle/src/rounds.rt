@@ -1,5 +1,5 @@
 //! Rounds of takes and finishes.
-ghost use Rattle.std.specs.Prelude.{◌≡◌, false, IfOk, IfErr, ℕ, Option, Bool};
+ghost use Rattle.std.specs.Prelude.{◌≡◌, ◌≤◌, false, IfOk, IfErr, ℕ, Option, Bool};
 ghost use Rattle.cat_model.specs.Settle.{begun_round, due_refs, is_ended, try_round};
 ghost use Rattle.cat_events.specs.Coming.{IsSteady};
 ghost use Rattle.cat_events.specs.Stepped.{AreMoments};
@@ -7,7 +7,7 @@ ghost use Rattle.cat_settle.specs.Part.{Came, CameRounds, Goes};
 
 use crate::order::counted;
 use crate::turn::all_turned;
-use cat_hold::layers::Layers;
+use cat_events::cat_hold::layers::Layers;
 use cat_links::links::Links;
 use cat_model::types::{Progress, Settings};
 use cat_ref::reference::Ref;
@@ -19,6 +19,7 @@ fn one_round<L: Layers>(
     alloc: Global,
     layers: &L,
     settings: &Settings,
+    most: u64,
     now: u64,
     refs: &Listing<Ref>,
     p: &mut Progress,
@@ -31,9 +32,19 @@ fn one_round<L: Layers>(
     ensures came { Came result (λ limit. try_round L.rules settings.now now limit p.old) p.new }
     ensures steady { IsSteady L.rules links.new p.new.state }
     ensures goes { Goes L.rules p.old p.new }
+    ensures within { p.old.events ≤ most → p.new.events ≤ most }
 {
     p.rounds = counted(p.rounds);
-    all_turned(alloc, layers, settings, now, refs.as_slice(), p, links)
+    all_turned(
+        alloc,
+        layers,
+        settings,
+        most,
+        now,
+        refs.as_slice(),
+        p,
+        links,
+    )
 }
 
 /// Rounds until for the first time no record is due or the settle is stopped.
@@ -41,6 +52,7 @@ pub fn all_rounds<L: Layers>(
     alloc: Global,
     layers: &L,
     settings: &Settings,
+    most: u64,
     now: u64,
     p: &mut Progress,
     links: &mut Links,
@@ -50,6 +62,7 @@ pub fn all_rounds<L: Layers>(
     ensures came { CameRounds L.rules settings.now now p.old result p.new }
     ensures steady { IsSteady L.rules links.new p.new.state }
     ensures goes { Goes L.rules p.old p.new }
+    ensures within { p.old.events ≤ most → p.new.events ≤ most }
 {
     'rounds: loop {
         match p.state.records.due(alloc, now) {
@@ -57,7 +70,7 @@ pub fn all_rounds<L: Layers>(
                 if p.stop.is_some() || refs.len() == 0 {
                     return Ok(());
                 }
-                match one_round(alloc, layers, settings, now, &refs, p, links) {
+                match one_round(alloc, layers, settings, most, now, &refs, p, links) {
                     Ok(()) => {}
                     Err(refused) => return Err(refused),
                 }

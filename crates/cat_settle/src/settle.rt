@@ -7,18 +7,19 @@ ghost use Rattle.cat_settle.specs.Part.{Came, Goes};
 
 use crate::rounds::all_rounds;
 use crate::stitches::all_marks;
-use cat_hold::layers::Layers;
+use cat_events::cat_hold::layers::Layers;
 use cat_links::links::Links;
 use cat_model::types::{Progress, Settings};
 use std::alloc::{AllocError, Global};
 
 /// Settles the state of a progress that is not begun: rounds until none is due, and then the stitches. Where it stops at a
-/// refusal, the progress says so; where memory runs out, exactly the events that the progress counts stand. The links are
-/// those of the state, before and after.
+/// refusal, the progress says so; where memory runs out, or before the event after `most`, exactly the events that the progress counts stand. The
+/// links are those of the state, before and after.
 pub fn settled<L: Layers>(
     alloc: Global,
     layers: &L,
     settings: &Settings,
+    most: u64,
     now: u64,
     p: &mut Progress,
     links: &mut Links,
@@ -30,9 +31,10 @@ pub fn settled<L: Layers>(
     ensures came { Came result (λ limit. try_settle L.rules settings.now now limit p.old.state) p.new }
     ensures steady { IsSteady L.rules links.new p.new.state }
     ensures goes { Goes L.rules p.old p.new }
+    ensures within { p.old.events ≤ most → p.new.events ≤ most }
 {
-    match all_rounds(alloc, layers, settings, now, p, links) {
-        Ok(()) => all_marks(alloc, layers, settings, p, links),
+    match all_rounds(alloc, layers, settings, most, now, p, links) {
+        Ok(()) => all_marks(alloc, layers, settings, most, p, links),
         Err(refused) => Err(refused),
     }
 }

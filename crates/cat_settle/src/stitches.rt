@@ -1,5 +1,5 @@
 //! The stitches at the end of a settle, in order of ticket.
-ghost use Rattle.std.specs.Prelude.{◌≡◌, IfOk, IfErr, ℕ, List, Option};
+ghost use Rattle.std.specs.Prelude.{◌≡◌, ◌≤◌, IfOk, IfErr, ℕ, List, Option};
 ghost use Rattle.cat_table.specs.Table.{get, keys};
 ghost use Rattle.cat_model.specs.Settle.{by_ticket, mark_order, marks_in_order, try_event, try_marks, try_stitch_with, try_stitches};
 ghost use Rattle.cat_model.specs.Step.Event.{PutStitch};
@@ -7,12 +7,12 @@ ghost use Rattle.cat_events.specs.Coming.{IsSteady};
 ghost use Rattle.cat_events.specs.Stepped.{come_to};
 ghost use Rattle.cat_settle.specs.Part.{Came, Goes, moved_in};
 
-use crate::order::{MOST_EVENTS, stitch_noted, stitch_order_of};
+use crate::order::{stitch_noted, stitch_order_of};
+use cat_events::cat_hold::layers::Layers;
 use cat_events::done::Stitched;
 use cat_events::stitch::put_stitch;
-use cat_hold::layers::Layers;
 use cat_links::links::Links;
-use cat_marks::marks::Marks;
+use cat_model::cat_marks::marks::Marks;
 use cat_model::types::{Progress, Settings, StitchOrder};
 use cat_ref::reference::Ref;
 use cat_table::listing::{Copied, Listing};
@@ -86,6 +86,7 @@ fn stitch_tried<L: Layers>(
     alloc: Global,
     layers: &L,
     settings: &Settings,
+    most: u64,
     order: &StitchOrder,
     p: &mut Progress,
     links: &Links,
@@ -94,11 +95,12 @@ fn stitch_tried<L: Layers>(
     ensures came { Came result (λ limit. try_event L.rules settings.now limit (PutStitch order.now) p.old) p.new }
     ensures steady { IsSteady L.rules links.now p.new.state }
     ensures goes { Goes L.rules p.old p.new }
+    ensures within { p.old.events ≤ most → p.new.events ≤ most }
 {
     if p.stop.is_some() {
         return Ok(());
     }
-    if p.events >= MOST_EVENTS {
+    if p.events >= most {
         return Err(AllocError);
     }
     stitched(alloc, layers, settings, order, p, links)
@@ -109,6 +111,7 @@ fn given_stitched<L: Layers>(
     alloc: Global,
     layers: &L,
     settings: &Settings,
+    most: u64,
     given: Option<StitchOrder>,
     p: &mut Progress,
     links: &Links,
@@ -117,9 +120,10 @@ fn given_stitched<L: Layers>(
     ensures came { Came result (λ limit. try_stitch_with L.rules settings.now limit given p.old) p.new }
     ensures steady { IsSteady L.rules links.now p.new.state }
     ensures goes { Goes L.rules p.old p.new }
+    ensures within { p.old.events ≤ most → p.new.events ≤ most }
 {
     match given {
-        Some(order) => stitch_tried(alloc, layers, settings, &order, p, links),
+        Some(order) => stitch_tried(alloc, layers, settings, most, &order, p, links),
         None => Ok(()),
     }
 }
@@ -129,6 +133,7 @@ fn mark_tried<L: Layers>(
     alloc: Global,
     layers: &L,
     settings: &Settings,
+    most: u64,
     reference: &Ref,
     p: &mut Progress,
     links: &Links,
@@ -137,9 +142,10 @@ fn mark_tried<L: Layers>(
     ensures came { Came result (λ limit. try_stitch_with L.rules settings.now limit (mark_order L.rules p.old.state reference.now) p.old) p.new }
     ensures steady { IsSteady L.rules links.now p.new.state }
     ensures goes { Goes L.rules p.old p.new }
+    ensures within { p.old.events ≤ most → p.new.events ≤ most }
 {
     match stitch_order_of(alloc, layers, &p.state, reference, links) {
-        Ok(given) => given_stitched(alloc, layers, settings, given, p, links),
+        Ok(given) => given_stitched(alloc, layers, settings, most, given, p, links),
         Err(refused) => Err(refused),
     }
 }
@@ -148,6 +154,7 @@ fn all_stitched<L: Layers>(
     alloc: Global,
     layers: &L,
     settings: &Settings,
+    most: u64,
     refs: &[Ref],
     p: &mut Progress,
     links: &Links,
@@ -156,9 +163,10 @@ fn all_stitched<L: Layers>(
     ensures came { Came result (λ limit. try_stitches L.rules settings.now limit refs.now p.old) p.new }
     ensures steady { IsSteady L.rules links.now p.new.state }
     ensures goes { Goes L.rules p.old p.new }
+    ensures within { p.old.events ≤ most → p.new.events ≤ most }
 {
     for reference in refs {
-        match mark_tried(alloc, layers, settings, reference, p, links) {
+        match mark_tried(alloc, layers, settings, most, reference, p, links) {
             Ok(()) => {}
             Err(refused) => return Err(refused),
         }
@@ -171,6 +179,7 @@ pub fn all_marks<L: Layers>(
     alloc: Global,
     layers: &L,
     settings: &Settings,
+    most: u64,
     p: &mut Progress,
     links: &Links,
 ) -> Result<(), AllocError>
@@ -178,9 +187,10 @@ pub fn all_marks<L: Layers>(
     ensures came { Came result (λ limit. try_marks L.rules settings.now limit p.old) p.new }
     ensures steady { IsSteady L.rules links.now p.new.state }
     ensures goes { Goes L.rules p.old p.new }
+    ensures within { p.old.events ≤ most → p.new.events ≤ most }
 {
     match marked_refs(alloc, &p.state.marks) {
-        Ok(refs) => all_stitched(alloc, layers, settings, refs.as_slice(), p, links),
+        Ok(refs) => all_stitched(alloc, layers, settings, most, refs.as_slice(), p, links),
         Err(refused) => Err(refused),
     }
 }

@@ -1,5 +1,5 @@
 //! A turn: a record that is due is taken, whatever lease it has, and finished.
-ghost use Rattle.std.specs.Prelude.{◌≡◌, IfOk, IfErr, ℕ, Option, Bool};
+ghost use Rattle.std.specs.Prelude.{◌≡◌, ◌≤◌, IfOk, IfErr, ℕ, Option, Bool};
 ghost use Rattle.cat_table.specs.Table.{get, keys};
 ghost use Rattle.cat_links.specs.Links.{Emitted};
 ghost use Rattle.cat_model.specs.Settle.{is_due, order, try_event, try_finish, try_take_and_finish, try_turn, try_turns};
@@ -9,11 +9,11 @@ ghost use Rattle.cat_events.specs.Coming.{IsSteady};
 ghost use Rattle.cat_events.specs.Stepped.{come_to, AreMoments};
 ghost use Rattle.cat_settle.specs.Part.{Came, Goes, moved, moved_in};
 
-use crate::order::{MOST_EVENTS, due, finish_noted, lease_noted, order_of};
+use crate::order::{due, finish_noted, lease_noted, order_of};
+use cat_events::cat_hold::layers::Layers;
 use cat_events::done::Done;
 use cat_events::finish::finish;
 use cat_events::lease::take_at;
-use cat_hold::layers::Layers;
 use cat_links::links::Links;
 use cat_model::types::{Order, Progress, Settings};
 use cat_ref::reference::Ref;
@@ -34,6 +34,7 @@ fn take_tried<L: Layers>(
     alloc: Global,
     layers: &L,
     settings: &Settings,
+    most: u64,
     now: u64,
     reference: &Ref,
     p: &mut Progress,
@@ -44,11 +45,12 @@ fn take_tried<L: Layers>(
     ensures came { Came result (λ limit. try_event L.rules settings.now limit (TakeAt reference.now now) p.old) p.new }
     ensures steady { (links : Emitted) → IsSteady L.rules links p.old.state → IsSteady L.rules links p.new.state }
     ensures goes { Goes L.rules p.old p.new }
+    ensures within { p.old.events ≤ most → p.new.events ≤ most }
 {
     if p.stop.is_some() {
         return Ok(());
     }
-    if p.events >= MOST_EVENTS {
+    if p.events >= most {
         return Err(AllocError);
     }
     taken(layers, settings, now, reference, p);
@@ -86,6 +88,7 @@ fn finish_tried<L: Layers>(
     alloc: Global,
     layers: &L,
     settings: &Settings,
+    most: u64,
     now: u64,
     order: &Order,
     p: &mut Progress,
@@ -96,11 +99,12 @@ fn finish_tried<L: Layers>(
     ensures came { Came result (λ limit. try_event L.rules settings.now limit (Finish order.now now) p.old) p.new }
     ensures steady { IsSteady L.rules links.new p.new.state }
     ensures goes { Goes L.rules p.old p.new }
+    ensures within { p.old.events ≤ most → p.new.events ≤ most }
 {
     if p.stop.is_some() {
         return Ok(());
     }
-    if p.events >= MOST_EVENTS {
+    if p.events >= most {
         return Err(AllocError);
     }
     finished(alloc, layers, settings, now, order, p, links)
@@ -111,6 +115,7 @@ fn given_tried<L: Layers>(
     alloc: Global,
     layers: &L,
     settings: &Settings,
+    most: u64,
     now: u64,
     given: Option<Order>,
     p: &mut Progress,
@@ -121,9 +126,10 @@ fn given_tried<L: Layers>(
     ensures came { Came result (λ limit. try_finish L.rules settings.now now limit given p.old) p.new }
     ensures steady { IsSteady L.rules links.new p.new.state }
     ensures goes { Goes L.rules p.old p.new }
+    ensures within { p.old.events ≤ most → p.new.events ≤ most }
 {
     match given {
-        Some(order) => finish_tried(alloc, layers, settings, now, &order, p, links),
+        Some(order) => finish_tried(alloc, layers, settings, most, now, &order, p, links),
         None => Ok(()),
     }
 }
@@ -133,6 +139,7 @@ fn order_tried<L: Layers>(
     alloc: Global,
     layers: &L,
     settings: &Settings,
+    most: u64,
     now: u64,
     reference: &Ref,
     p: &mut Progress,
@@ -143,9 +150,10 @@ fn order_tried<L: Layers>(
     ensures came { Came result (λ limit. try_finish L.rules settings.now now limit (order L.rules p.old.state reference.now) p.old) p.new }
     ensures steady { IsSteady L.rules links.new p.new.state }
     ensures goes { Goes L.rules p.old p.new }
+    ensures within { p.old.events ≤ most → p.new.events ≤ most }
 {
     match order_of(alloc, layers, &p.state, reference) {
-        Ok(given) => given_tried(alloc, layers, settings, now, given, p, links),
+        Ok(given) => given_tried(alloc, layers, settings, most, now, given, p, links),
         Err(refused) => Err(refused),
     }
 }
@@ -154,6 +162,7 @@ fn taken_and_finished<L: Layers>(
     alloc: Global,
     layers: &L,
     settings: &Settings,
+    most: u64,
     now: u64,
     reference: &Ref,
     p: &mut Progress,
@@ -164,9 +173,10 @@ fn taken_and_finished<L: Layers>(
     ensures came { Came result (λ limit. try_take_and_finish L.rules settings.now now limit reference.now p.old) p.new }
     ensures steady { IsSteady L.rules links.new p.new.state }
     ensures goes { Goes L.rules p.old p.new }
+    ensures within { p.old.events ≤ most → p.new.events ≤ most }
 {
-    match take_tried(alloc, layers, settings, now, reference, p) {
-        Ok(()) => order_tried(alloc, layers, settings, now, reference, p, links),
+    match take_tried(alloc, layers, settings, most, now, reference, p) {
+        Ok(()) => order_tried(alloc, layers, settings, most, now, reference, p, links),
         Err(refused) => Err(refused),
     }
 }
@@ -175,6 +185,7 @@ fn turned<L: Layers>(
     alloc: Global,
     layers: &L,
     settings: &Settings,
+    most: u64,
     now: u64,
     reference: &Ref,
     p: &mut Progress,
@@ -185,9 +196,10 @@ fn turned<L: Layers>(
     ensures came { Came result (λ limit. try_turn L.rules settings.now now limit reference.now p.old) p.new }
     ensures steady { IsSteady L.rules links.new p.new.state }
     ensures goes { Goes L.rules p.old p.new }
+    ensures within { p.old.events ≤ most → p.new.events ≤ most }
 {
     if due(now, p.state.records.get(reference)) {
-        taken_and_finished(alloc, layers, settings, now, reference, p, links)
+        taken_and_finished(alloc, layers, settings, most, now, reference, p, links)
     } else {
         Ok(())
     }
@@ -198,6 +210,7 @@ pub fn all_turned<L: Layers>(
     alloc: Global,
     layers: &L,
     settings: &Settings,
+    most: u64,
     now: u64,
     refs: &[Ref],
     p: &mut Progress,
@@ -208,9 +221,10 @@ pub fn all_turned<L: Layers>(
     ensures came { Came result (λ limit. try_turns L.rules settings.now now limit refs.now p.old) p.new }
     ensures steady { IsSteady L.rules links.new p.new.state }
     ensures goes { Goes L.rules p.old p.new }
+    ensures within { p.old.events ≤ most → p.new.events ≤ most }
 {
     for reference in refs {
-        match turned(alloc, layers, settings, now, reference, p, links) {
+        match turned(alloc, layers, settings, most, now, reference, p, links) {
             Ok(()) => {}
             Err(refused) => return Err(refused),
         }

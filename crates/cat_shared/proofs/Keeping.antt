@@ -6,27 +6,26 @@ use Rattle.std.specs.Coded.{Coded-set}
 use Rattle.std.specs.Option.{option_and_then}
 use Rattle.std.specs.declared.option.Option.{Option}
 use Rattle.std.specs.declared.option.Option.TheVariants.{None, Some}
-use Rattle.cat_core.specs.declared.fault.CoreFault.TheVariants.{Keeper}
 use Rattle.cat_core.specs.declared.ledger.Ledger.{Ledger}
 use Rattle.cat_desk.specs.Acts.{Acts}
 use Rattle.cat_desk.specs.Deed.{Deed}
 use Rattle.cat_desk.specs.declared.command.Reply.{Reply}
-use Rattle.cat_desk.specs.declared.command.Reply.TheVariants as replies
 use Rattle.cat_io.specs.Causes.{Rose}
-use Rattle.cat_kept_desk.proofs.Answered.{lost_is}
-use Rattle.cat_kept_desk.specs.Deeds.{IsUnkept}
+use Rattle.cat_kept_desk.proofs.Answered.{acts_kept, lost_is}
+use Rattle.cat_kept_desk.specs.Deeds.{IsLost, is_lost}
 use Rattle.cat_model.specs.Catalogue.{Rules}
 use Rattle.cat_model.specs.Sound.{Sound}
 use Rattle.cat_model.specs.contracts.types.State.{the_row}
 use Rattle.cat_model.specs.declared.types.Settings.{Settings}
 use Rattle.cat_model.specs.declared.types.State.{State}
 use Rattle.cat_shared.specs.Book.{Does, entries}
-use Rattle.cat_shared.specs.Notes.{IsNoteOf, IsNoted, is_noted, lost, lost_in}
+use Rattle.cat_shared.specs.Notes.{IsLossOf, IsNoteOf, IsNoted, is_noted, lost, lost_in}
 use Rattle.cat_shared.specs.Replay.{led, replay}
 use Rattle.cat_shared.specs.declared.entry.Entry.{Entry}
 use Rattle.cat_shared.specs.declared.entry.Noted.{Noted}
 use Rattle.cat_shared.specs.declared.entry.Noted.TheVariants as notes
 use Rattle.cat_shared.proofs.Leading.{By, deed_sound, note_leads, unnoted_stays}
+use Rattle.cat_shared.proofs.Losing.{loss_counts, loss_leads, loss_settings, loss_sound, loss_unnoted}
 
 some_same : {A : Type 0} (x y : A) → Some x ≡ Some y → x ≡ y
 some_same x y h = ap (λ v. unwrap_or v x) h
@@ -44,11 +43,6 @@ one_lost : (first n faults faults' : ℕ) → min (first + n) (2 ^ 64 - 1) ≤ f
 one_lost first n faults faults' h rose = omega arith
 
 module _ (rules : Rules) where
-  -- what wasn't kept leads nowhere else
-  lost_leads : (s : Settings) (m : State) → led rules s notes.Unkept m ≡ Some m
-  unfolding led
-  lost_leads s m = refl
-
   -- one entry more leads on from where the entries before it lead
   pub replay_on : (s : Settings) (journal : List Entry) (entry : Entry) (m n k : State) → replay rules s m journal ≡ Some n → led rules s entry.noted n ≡ Some k → replay rules s m (journal ++ entry ∷ []) ≡ Some k
   replay_on s [] entry m n k h l = ap (λ x. option_and_then (λ y. Some y) (led rules s entry.noted x)) (some_same m n h) ∙ ap (λ v. option_and_then (λ y. Some y) v) l
@@ -65,42 +59,47 @@ module _ (rules : Rules) where
     by acts = record { state = acts.state; answer = acts.answer; exact = acts.exact }
 
     pub does_settings : new.settings ≡ old.settings
-    does_settings = elim does.acts [ inl acts ↦ acts.settings | inr none ↦ none.settings ]
+    does_settings = elim does.acts [ inl acts ↦ acts.settings | inr loss ↦ loss_settings rules now d old new reply loss ]
 
     -- the longer journal leads to the state after the deed
     pub does_replay : old.settings ≡ s → ∥ Sound rules old.state ∥₁ → replay rules s opening journal ≡ Some old.state → replay rules s opening longer ≡ Some new.state
     does_replay same sound led_to = ap (replay rules s opening) does.journal ∙ at does.noted does.is
       where
-        stays : is_noted reply ≡ false → new.state ≡ old.state
-        stays h = elim does.acts [
+        stays : is_noted reply ≡ false → is_lost reply ≡ false → new.state ≡ old.state
+        stays h never = elim does.acts [
           | inl acts ↦ ∥∥₁_elim sound (Coded-set the_row.coded _ _) (λ k. unnoted_stays rules old.settings now old.state new.state reply h k d acts.word (by acts))
-          | inr none ↦ none.state
+          | inr loss ↦ absurd (true≢false (sym (lost_is rules now d old new reply loss) ∙ never))
         ]
 
         leads : (noted : Noted) → is_noted reply ≡ true → IsNoteOf now d reply noted → led rules old.settings noted old.state ≡ Some new.state
         leads noted h is = elim does.acts [
           | inl acts ↦ note_leads rules old.settings now old.state new.state reply h d acts.word (by acts) noted is
-          | inr none ↦ absurd (true≢false (sym h ∙ ap is_noted none.answer))
+          | inr loss ↦ absurd (true≢false (sym h ∙ loss_unnoted rules now d old new reply loss))
         ]
 
+        leads_lost : (noted : Noted) → is_lost reply ≡ true → IsLossOf now d reply noted → led rules old.settings noted old.state ≡ Some new.state
+        leads_lost noted h is = elim does.acts [
+          | inl acts ↦ absurd (true≢false (sym h ∙ acts_kept rules now d old new reply acts))
+          | inr loss ↦ loss_leads rules now d old new reply loss noted is
+        ]
+
+        on : (noted : Noted) → led rules old.settings noted old.state ≡ Some new.state → replay rules s opening (journal ++ entries pass (Some noted)) ≡ Some new.state
+        on noted to = replay_on s journal (record { pass = pass; noted = noted }) opening old.state new.state led_to (subst (λ t. led rules t noted old.state ≡ Some new.state) same to)
+
         at : (v : Option Noted) → IsNoted now d reply v → replay rules s opening (journal ++ entries pass v) ≡ Some new.state
-        at None is = ap (replay rules s opening) (append-nil journal) ∙ (led_to ∙ ap Some (sym (stays is.0)))
-        at (Some noted) (inl is) =
-            replay_on s journal (record { pass = pass; noted = noted }) opening old.state new.state led_to (subst (λ t. led rules t noted old.state ≡ Some new.state) same (leads noted is.0 is.1))
-        at (Some noted) (inr is) =
-            let stays' : new.state ≡ old.state = stays (ap is_noted (lost_is reply is.0)) in
-            replay_on s journal (record { pass = pass; noted = noted }) opening old.state new.state led_to
-            (ap (λ x. led rules s x old.state) is.1 ∙ (lost_leads s old.state ∙ ap Some (sym stays')))
+        at None is = ap (replay rules s opening) (append-nil journal) ∙ (led_to ∙ ap Some (sym (stays is.0 is.1)))
+        at (Some noted) (inl is) = on noted (leads noted is.0 is.1)
+        at (Some noted) (inr is) = on noted (leads_lost noted is.0 is.1)
 
     -- what must hold between two events holds after the deed
     pub does_sound : ∥ Sound rules old.state ∥₁ → ∥ Sound rules new.state ∥₁
     does_sound sound = elim does.acts [
       | inl acts ↦ ∥∥₁_map sound (deed_sound rules old.settings now old.state new.state reply d acts.word (by acts))
-      | inr none ↦ ∥∥₁_map sound (subst (Sound rules) (sym none.state))
+      | inr loss ↦ ∥∥₁_map sound (loss_sound rules now d old new reply loss)
     ]
 
     -- at most as many commands weren't kept as faults were counted
-    pub does_counted : (first faults faults' : ℕ) → min (first + lost journal) (2 ^ 64 - 1) ≤ faults → faults ≤ faults' → (reply ≡ replies.Refused Keeper → Rose faults faults')
+    pub does_counted : (first faults faults' : ℕ) → min (first + lost journal) (2 ^ 64 - 1) ≤ faults → faults ≤ faults' → (is_lost reply ≡ true → Rose faults faults')
         → min (first + lost longer) (2 ^ 64 - 1) ≤ faults'
     does_counted first faults faults' counted later cause = subst (λ es. min (first + lost es) (2 ^ 64 - 1) ≤ faults') (sym does.journal) (at does.noted does.is)
       where
@@ -115,15 +114,16 @@ module _ (rules : Rules) where
         kept_none (notes.Settled moment) is = refl
         kept_none (notes.Cut moment events) is = refl
         kept_none notes.Unkept is = absurd is
+        kept_none (notes.CutUnkept moment events) is = absurd is
 
         at : (v : Option Noted) → IsNoted now d reply v → min (first + lost (journal ++ entries pass v)) (2 ^ 64 - 1) ≤ faults'
         at None is = same _ (ap lost (append-nil journal))
         at (Some noted) (inl is) = same _ (lost_on journal (record { pass = pass; noted = noted }) ∙ (ap (λ k. lost journal + k) (kept_none noted is.1) ∙ no_more (lost journal)))
         at (Some noted) (inr is) =
-            subst (λ n. min (first + n) (2 ^ 64 - 1) ≤ faults') (sym (lost_on journal (record { pass = pass; noted = noted }) ∙ ap (λ x. lost journal + lost_in x) is.1))
-            (one_lost first (lost journal) faults faults' counted (cause (lost_is reply is.0)))
+            subst (λ n. min (first + n) (2 ^ 64 - 1) ≤ faults') (sym (lost_on journal (record { pass = pass; noted = noted }) ∙ ap (λ k. lost journal + k) (loss_counts now d reply noted is.1)))
+            (one_lost first (lost journal) faults faults' counted (cause is.0))
 
-module _ (rules : Rules) (pass now : ℕ) (d : Deed) (old new : Ledger) (before : List Entry) (reply : Reply) (acts : Acts rules now d old new reply ⊎ IsUnkept d old new reply) where
+module _ (rules : Rules) (pass now : ℕ) (d : Deed) (old new : Ledger) (before : List Entry) (reply : Reply) (acts : Acts rules now d old new reply ⊎ IsLost rules now d old new reply) where
   -- a deed of which nothing is to be noted leaves the journal as it is
   pub does_unnoted : (moment : ℕ) (v : Option Noted) (after : List Entry) → moment ≡ now → v ≡ None → IsNoted moment d reply v → after ≡ before → Does rules pass now d old new before after reply
   does_unnoted moment v after then none is same = record {

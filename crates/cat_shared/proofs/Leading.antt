@@ -1,5 +1,5 @@
 -- Where a deed leads, by what is noted of it.
-use Rattle.std.proofs.Common.{◌≡◌, ℕ, Bool, true, false, cond, nat_eq, nat_lt, is_some, refl, sym, ap, subst, ◌∙◌, true≢false, arith}
+use Rattle.std.proofs.Common.{◌≡◌, ℕ, Bool, true, false, not, ◌&&◌, cond, nat_eq, nat_lt, is_some, refl, sym, ap, subst, ◌∙◌, true≢false, arith}
 use Rattle.std.proofs.lemmas.Bool.Decides.{nat_tests}
 use Rattle.std.specs.Option.{option_and_then}
 use Rattle.std.specs.declared.option.Option.{Option}
@@ -11,10 +11,11 @@ use Rattle.cat_desk.specs.Deed.{Deed}
 use Rattle.cat_desk.specs.Deed.Deed.{Mutate, ShelfPut, ShelfDrop, Refresh, Forget, ForgetNumber, Take, Finish, TakeStitch, PutStitch, Settle}
 use Rattle.cat_desk.specs.declared.command.Reply.{Reply}
 use Rattle.cat_desk.specs.declared.command.Reply.TheVariants as replies
+use Rattle.cat_kept_desk.specs.Deeds.{is_keeper}
 use Rattle.cat_laws.proofs.Asked.{taken_given}
 use Rattle.cat_laws.proofs.Stands.{settle_keeps}
 use Rattle.cat_laws.proofs.Steps.{step_kept}
-use Rattle.cat_loop.specs.Word.{Word, plain, memory, cut, unkept}
+use Rattle.cat_loop.specs.Word.{Word, plain, memory, cut, unkept, cut_unkept}
 use Rattle.cat_model.specs.Catalogue.{Ref, Rules, frame}
 use Rattle.cat_model.specs.Given.{given}
 use Rattle.cat_model.specs.Reply.{acted, finished, finished_as, finished_with, placed, token_of}
@@ -49,16 +50,23 @@ use Rattle.cat_types.specs.declared.work.Outcome.TheVariants.{Good, Bad}
 use Rattle.cat_shared.proofs.Present.{finish_present, stitch_present}
 use Rattle.cat_shared.proofs.Standing.{none_counted, none_stands, settle_unlimited}
 
-same_self : (k : ℕ) → nat_eq k k ≡ true
+pub same_self : (k : ℕ) → nat_eq k k ≡ true
 same_self k = grind (arith, nat_tests)
 
 none_below : (k : ℕ) → nat_lt 0 k ≡ false → k ≡ 0
 none_below k h = grind (arith, nat_tests)
 
 -- how many events a reply says that they stand
-abbrev cut_events : Reply → ℕ
+abbrev pub cut_events : Reply → ℕ
 cut_events (replies.Cut short) = short.events
 cut_events _ = 0
+
+-- a refused event isn't the keeper's fault
+no_keeper : (f : Fault) → is_keeper (core_fault f) ≡ false
+no_keeper (model.OldSerial k) = refl
+no_keeper model.NotFound = refl
+no_keeper (model.TooLarge k) = refl
+no_keeper (model.Spent c) = refl
 
 -- what isn't to be noted isn't noted
 not_noted : {A : Type 0} (reply : Reply) → is_noted reply ≡ true → is_noted reply ≡ false → A
@@ -98,12 +106,14 @@ module _ (rules : Rules) (s : Settings) (now : ℕ) where
       done_whole d never memory by = not_noted reply h (ap is_noted by.answer)
       done_whole d never (cut k) by = absurd (never by.exact.0)
       done_whole d never unkept by = whole_leads d by.state by.answer
+      done_whole d never (cut_unkept i) by = whole_leads d by.state by.answer
 
       answered_whole : (d : Deed) → (d ≡ Settle → ⊥) → (w : Word) → By d w → reply ≡ answered rules s now None d m
       answered_whole d never plain by = by.answer
       answered_whole d never memory by = not_noted reply h (ap is_noted by.answer)
       answered_whole d never (cut k) by = absurd (never by.exact.0)
       answered_whole d never unkept by = by.answer
+      answered_whole d never (cut_unkept i) by = by.answer
 
       -- ---- input commands
 
@@ -183,6 +193,7 @@ module _ (rules : Rules) (s : Settings) (now : ℕ) where
       settled_leads memory by never = not_noted reply h (ap is_noted by.answer)
       settled_leads (cut k) by never = absurd (true≢false (sym (ap is_cut_short by.answer) ∙ never))
       settled_leads unkept by never = whole_leads Settle by.state by.answer
+      settled_leads (cut_unkept i) by never = whole_leads Settle by.state by.answer
 
       no_want : (f : Fault) → is_want (core_fault f) ≡ false
       no_want (model.OldSerial k) = refl
@@ -211,6 +222,9 @@ module _ (rules : Rules) (s : Settings) (now : ℕ) where
       cut_leads k unkept by is =
           let p = try_settle rules s now None m in
           absurd (true≢false (sym (ap is_cut_short is) ∙ (ap is_cut_short by.answer ∙ not_short p p.stop (settle_unlimited rules s now m))))
+      cut_leads k (cut_unkept i) by is =
+          let p = try_settle rules s now None m in
+          absurd (true≢false (sym (ap is_cut_short is) ∙ (ap is_cut_short by.answer ∙ not_short p p.stop (settle_unlimited rules s now m))))
       cut_leads k (cut limit) by is =
           ap (λ e. led rules s (notes.Cut now e) m) (ap cut_events (sym is ∙ by.answer) ∙ by.exact.1) ∙ cut_at limit by
 
@@ -224,6 +238,7 @@ module _ (rules : Rules) (s : Settings) (now : ℕ) where
           (λ i. led rules s (notes.Stitched (is.2 i) (is.3 i)) m) ∙ stitched_leads is.0 w (subst (λ v. By v w) is.1 by)
       note_leads d w by (notes.Settled moment) is = ap (λ k. led rules s (notes.Settled k) m) is.1 ∙ settled_leads w (subst (λ v. By v w) is.0 by) is.2
       note_leads d w by notes.Unkept is = absurd is
+      note_leads d w by (notes.CutUnkept moment events) is = absurd is
       note_leads d w by (notes.Cut moment events) is = ap (λ k. led rules s (notes.Cut k events) m) is.1 ∙ cut_leads events w (subst (λ v. By v w) is.0 by) is.2
 
     -- ---- where nothing is noted
@@ -269,7 +284,9 @@ module _ (rules : Rules) (s : Settings) (now : ℕ) where
       settle_same : (p : Progress) → p ≡ try_settle rules s now None m → (v : Option Stop) → is_noted (settled_as (stop_answer p v)) ≡ false → p.state ≡ m
       settle_same p is None never = subst (λ (q : Progress). q.leases ≡ 0 → q.stitched ≡ 0 → q.state ≡ m) (sym is) (none_counted rules s now None m)
           (none_below p.leases (or_false_first (nat_lt 0 p.leases) (nat_lt 0 p.stitched) never)) (none_below p.stitched (or_false_second (nat_lt 0 p.leases) (nat_lt 0 p.stitched) never))
-      settle_same p is (Some (Refused f)) never = subst (λ (q : Progress). q.events ≡ 0 → q.state ≡ m) (sym is) (none_stands rules s now None m) (none_below p.events never)
+      settle_same p is (Some (Refused f)) never =
+          let none : nat_lt 0 p.events ≡ false = ap (λ b. not b && nat_lt 0 p.events) (sym (no_keeper f)) ∙ never in
+          subst (λ (q : Progress). q.events ≡ 0 → q.state ≡ m) (sym is) (none_stands rules s now None m) (none_below p.events none)
       settle_same p is (Some Limit) never = subst (λ (q : Progress). q.events ≡ 0 → q.state ≡ m) (sym is) (none_stands rules s now None m) (none_below p.events never)
 
       cut_same : (k : ℕ) → is_noted (answered rules s now (Some k) Settle m) ≡ false → (try_settle rules s now (Some k) m).state ≡ m
@@ -293,6 +310,7 @@ module _ (rules : Rules) (s : Settings) (now : ℕ) where
       unnoted_stays sound d plain by = done_stays sound d by.state by.answer
       unnoted_stays sound d memory by = by.state
       unnoted_stays sound d unkept by = done_stays sound d by.state by.answer
+      unnoted_stays sound d (cut_unkept i) by = done_stays sound d by.state by.answer
       unnoted_stays sound d (cut k) by =
           let is : By Settle (cut k) = subst (λ v. By v (cut k)) by.exact.0 by in
           is.state ∙ cut_same k (ap is_noted (sym is.answer) ∙ h)
@@ -318,3 +336,4 @@ module _ (rules : Rules) (s : Settings) (now : ℕ) where
     deed_sound d memory by sound = subst (Sound rules) (sym by.state) sound
     deed_sound d (cut k) by sound = subst (Sound rules) (sym by.state) (done_sound (Some k) d sound)
     deed_sound d unkept by sound = subst (Sound rules) (sym by.state) (done_sound None d sound)
+    deed_sound d (cut_unkept i) by sound = subst (Sound rules) (sym by.state) (done_sound None d sound)

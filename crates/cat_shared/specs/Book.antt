@@ -9,7 +9,7 @@ use Rattle.cat_desk.specs.Deed.{Deed}
 use Rattle.cat_desk.specs.Deed.Deed.{Settle}
 use Rattle.cat_desk.specs.declared.command.Reply.{Reply}
 use Rattle.cat_desk.specs.declared.command.Reply.TheVariants as replies
-use Rattle.cat_kept_desk.specs.Deeds.{IsUnkept}
+use Rattle.cat_kept_desk.specs.Deeds.{IsLost}
 use Rattle.cat_model.specs.Catalogue.{Rules}
 use Rattle.cat_shared.specs.Notes.{IsNoted}
 use Rattle.cat_shared.specs.declared.entry.Entry.{Entry}
@@ -25,10 +25,10 @@ abbrev pub lacking : Deed → Reply
 lacking Settle = replies.Cut (record { events = 0; fault = NoMemory })
 lacking _ = replies.Refused NoMemory
 
--- A deed was done to a catalogue at this moment, or its change wasn't kept and the catalogue is as before; what is to be noted of it stands at the
--- end of the journal, under the pass.
+-- A deed was done to a catalogue at this moment, or it wasn't kept, or of a settle just the first events were; what is to be noted of it stands at
+-- the end of the journal, under the pass.
 pub record Does (rules : Rules) (pass now : ℕ) (d : Deed) (old new : Ledger) (before after : List Entry) (reply : Reply) : Type 0 where
-  pub acts : Acts rules now d old new reply ⊎ IsUnkept d old new reply
+  pub acts : Acts rules now d old new reply ⊎ IsLost rules now d old new reply
   pub noted : Option Noted
   pub is : IsNoted now d reply noted
   pub journal : after ≡ before ++ entries pass noted

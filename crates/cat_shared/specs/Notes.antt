@@ -1,14 +1,14 @@
 -- What is noted of a deed.
-use Rattle.std.specs.Prelude.{◌≡◌, ◌⊎◌, ℕ, ◌+◌, Bool, true, false, ◌||◌, nat_lt, is_some, List, [], ◌∷◌}
+use Rattle.std.specs.Prelude.{◌≡◌, ◌⊎◌, ℕ, ◌+◌, Bool, true, false, not, ◌&&◌, ◌||◌, nat_lt, is_some, List, [], ◌∷◌}
 use Rattle.std.specs.declared.option.Option.{Option}
 use Rattle.std.specs.declared.option.Option.TheVariants.{None, Some}
 use Rattle.cat_core.specs.declared.fault.CoreFault.{CoreFault}
-use Rattle.cat_core.specs.declared.fault.CoreFault.TheVariants.{NoMemory}
+use Rattle.cat_core.specs.declared.fault.CoreFault.TheVariants.{Keeper, NoMemory}
 use Rattle.cat_desk.specs.Deed.{Deed}
 use Rattle.cat_desk.specs.Deed.Deed.{Mutate, ShelfPut, ShelfDrop, Refresh, Forget, ForgetNumber, Take, Finish, PutStitch, Settle}
 use Rattle.cat_desk.specs.declared.command.Reply.{Reply}
 use Rattle.cat_desk.specs.declared.command.Reply.TheVariants as replies
-use Rattle.cat_kept_desk.specs.Deeds.{is_lost}
+use Rattle.cat_kept_desk.specs.Deeds.{is_keeper, is_lost}
 use Rattle.cat_model.specs.Catalogue.{Ref}
 use Rattle.cat_model.specs.Given.{given}
 use Rattle.cat_model.specs.declared.types.Acted.{Acted}
@@ -44,7 +44,7 @@ is_counted Counted = true
 is_counted (LateStitch ticket) = false
 
 -- Whether a reply says that a deed is to be noted: that an input command acted, a take gave an order, a result or a document counted, or
--- some event of a settle stands.
+-- some event of a settle stands that the keeper's fault didn't cut.
 abbrev pub is_noted : Reply → Bool
 is_noted (replies.Mutated acted) = is_now acted
 is_noted replies.Changed = true
@@ -53,7 +53,7 @@ is_noted (replies.Finished finished) = has_counted finished
 is_noted (replies.StitchTaken order) = false
 is_noted (replies.Placed placed) = is_counted placed
 is_noted (replies.Settled counts) = nat_lt 0 counts.leases || nat_lt 0 counts.stitched
-is_noted (replies.Cut short) = nat_lt 0 short.events
+is_noted (replies.Cut short) = not (is_keeper short.fault) && nat_lt 0 short.events
 is_noted (replies.Refused fault) = false
 
 -- ---- what is noted of them
@@ -93,6 +93,11 @@ abbrev pub settled_note : ℕ → Reply → Noted
 settled_note now (replies.Cut short) = cut_note now short.events short.fault
 settled_note now _ = notes.Settled now
 
+-- What is noted of a deed that wasn't kept and was answered so at this moment: of a settle, how many events stand.
+abbrev pub unkept_note : ℕ → Reply → Noted
+unkept_note now (replies.Cut short) = notes.CutUnkept now short.events
+unkept_note now _ = notes.Unkept
+
 -- A note is of a deed that acted and was answered so at this moment.
 abbrev pub IsNoteOf : ℕ → Deed → Reply → Noted → Type 0
 IsNoteOf now d reply (notes.Acted input said) = (deed_in input ≡ d) × (said ≡ reply)
@@ -102,21 +107,30 @@ IsNoteOf now d reply (notes.Stitched reference ticket) = (order : StitchOrder) �
 IsNoteOf now d reply (notes.Settled moment) = (d ≡ Settle) × (moment ≡ now) × (is_cut_short reply ≡ false)
 IsNoteOf now d reply (notes.Cut moment events) = (d ≡ Settle) × (moment ≡ now) × (reply ≡ replies.Cut (record { events = events; fault = NoMemory }))
 IsNoteOf now d reply notes.Unkept = ⊥
+IsNoteOf now d reply (notes.CutUnkept moment events) = ⊥
 
--- What is noted of a deed that was answered so at this moment: just what its reply says is to be noted, and that it wasn't kept just where its
--- reply is the keeper's fault.
+-- A note is of a deed that wasn't kept and was answered so at this moment: all was as before it, or it is a settle, of which just the first events
+-- stand.
+abbrev pub IsLossOf : ℕ → Deed → Reply → Noted → Type 0
+IsLossOf now d reply notes.Unkept = reply ≡ replies.Refused Keeper
+IsLossOf now d reply (notes.CutUnkept moment events) = (d ≡ Settle) × (moment ≡ now) × (reply ≡ replies.Cut (record { events = events; fault = Keeper }))
+IsLossOf now d reply _ = ⊥
+
+-- What is noted of a deed that was answered so at this moment: just what its reply says is to be noted, and that it or the rest of it wasn't kept
+-- just where its reply has the keeper's fault.
 abbrev pub IsNoted : ℕ → Deed → Reply → Option Noted → Type 0
 IsNoted now d reply None = (is_noted reply ≡ false) × (is_lost reply ≡ false)
-IsNoted now d reply (Some noted) = ((is_noted reply ≡ true) × IsNoteOf now d reply noted) ⊎ ((is_lost reply ≡ true) × (noted ≡ notes.Unkept))
+IsNoted now d reply (Some noted) = ((is_noted reply ≡ true) × IsNoteOf now d reply noted) ⊎ ((is_lost reply ≡ true) × IsLossOf now d reply noted)
 
 -- ---- how many weren't kept
 
--- one, if a note says that a command wasn't kept
+-- one, if a note says that a command or the rest of it wasn't kept
 abbrev pub lost_in : Noted → ℕ
 lost_in notes.Unkept = 1
+lost_in (notes.CutUnkept moment events) = 1
 lost_in _ = 0
 
--- how many commands of a journal weren't kept
+-- how many commands of a journal weren't kept, or not all of them
 abbrev pub lost : List Entry → ℕ
 lost [] = 0
 lost (entry ∷ entries) = lost_in entry.noted + lost entries

@@ -8,9 +8,9 @@ use Rattle.cat_desk.specs.Asks.{IsAnswer}
 use Rattle.cat_desk.specs.Deed.{Deed}
 use Rattle.cat_desk.specs.declared.command.Asked.{Asked}
 use Rattle.cat_desk.specs.declared.command.Reply.{Reply}
-use Rattle.cat_fed.specs.Told.{Tells}
-use Rattle.cat_fed.specs.declared.desk.FeedAnswer.{FeedAnswer}
-use Rattle.cat_fed.specs.declared.desk.FeedAnswer.TheVariants.{Written, Gone, Ahead, Spent, NoMemory}
+use Rattle.cat_kept_desk.specs.cat_fed.specs.Told.{Tells}
+use Rattle.cat_kept_desk.specs.cat_fed.specs.declared.desk.FeedAnswer.{FeedAnswer}
+use Rattle.cat_kept_desk.specs.cat_fed.specs.declared.desk.FeedAnswer.TheVariants.{Written, Gone, Ahead, Spent, NoMemory}
 use Rattle.cat_feed.specs.Changes.{Documents, numbered, sets}
 use Rattle.cat_feed.specs.declared.change.Since.{Since}
 use Rattle.cat_feed.specs.declared.ledger.Ledger.{Ledger as Feed}
@@ -40,8 +40,8 @@ pub record Finds (rules : Rules) (s : Settings) (opening : State) (old : Mine En
   pub grown : GrowsBeside pass_of old.number old.seen journal
   pub replayed : replay rules s opening journal ≡ Some state
 
--- A deed was done, or wasn't kept, at the state of a journal, at some moment; it is noted so, and the longer journal leads to the state after it; or there
--- was no room for an entry, and the journal is as it was.
+-- A deed was done, or it or the rest of it wasn't kept, at the state of a journal, at some moment; it is noted so, and the longer journal leads to the
+-- state after it; or there was no room for an entry, and the journal is as it was.
 abbrev pub IsDone : Rules → Settings → State → ℕ → Deed → State → List Entry → List Entry → Reply → Type 0
 IsDone rules s opening pass d state journal longer reply =
     ((now : ℕ) × (after : State) × Does rules pass now d (ledger s state) (ledger s after) journal longer reply × (replay rules s opening longer ≡ Some after))

@@ -3,7 +3,7 @@ ghost use Rattle.std.specs.Prelude.{◌≡◌, ◌≢◌, ◌⊎◌, ◌++◌, �
 ghost use Rattle.std.specs.Coded.{Coded-set, coded_option};
 ghost use Rattle.cat_desk.specs.Asks.{AsksOnce};
 ghost use Rattle.cat_desk.specs.Deed.{deed_of};
-ghost use Rattle.cat_fed.specs.Told.{Tells};
+ghost use Rattle.cat_kept_desk.specs.cat_fed.specs.Told.{Tells};
 ghost use Rattle.cat_io.specs.Clock.{CountsReading};
 ghost use Rattle.cat_model.specs.Sound.{Sound};
 ghost use Rattle.cat_model.specs.Step.{start};
@@ -19,9 +19,9 @@ use crate::notes::{lacking, note, worked};
 use crate::timed::TimedDesk;
 use cat_core::catalogue::{Done, Stitched};
 use cat_desk::command::{Asked, Command, Reply};
-use cat_fed::desk::FeedAnswer;
 use cat_feed::change::Since;
 use cat_hold::layers::Layers;
+use cat_kept_desk::cat_fed::desk::FeedAnswer;
 use cat_query::ask::Ask;
 use cat_search::index::Index;
 use std::alloc::{AllocError, Global};
@@ -50,8 +50,8 @@ impl Named for Brand {
 }
 
 /// A catalogue with a clock and a feed, which may be kept in a store, and a journal of what was done to it. Its type keeps that the journal leads from
-/// the opening state to the present one, that what must hold between two events holds, and that as many commands of the journal weren't kept as
-/// faults were counted since the book was made, at most.
+/// the opening state to the present one, that what must hold between two events holds, and that as many commands of the journal weren't kept, or not
+/// all of them, as faults were counted since the book was made, at most.
 #[derive(Drop)]
 pub struct Book<L: Layers, B: TimedDesk<L>, N: Named> {
     desk: B,
@@ -97,8 +97,8 @@ impl<L: Layers, B: TimedDesk<L>, N: Named> Book<L, B, N> {
     }
 
     /// The journal leads from the opening state to the present one, under the settings that the book began with, and what must hold between
-    /// two events holds. At most as many of its commands weren't kept as faults were counted since the book was made, where that count isn't at the last
-    /// value of a u64; so over a keeper that never fails there is none.
+    /// two events holds. At most as many of its commands weren't kept, or not all of them, as faults were counted since the book was made, where that count
+    /// isn't at the last value of a u64; so over a keeper that never fails there is none.
     pub fn leads(&self)
         ensures settings { (B.ledger self.now.desk).settings ≡ N.settings }
         ensures replayed { replay L.rules N.settings N.opening self.now.journal.items ≡ Some (B.ledger self.now.desk).state }

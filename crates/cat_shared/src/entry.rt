@@ -52,6 +52,11 @@ pub enum Noted {
     },
     /// The keeper failed: a command's change wasn't kept, and all was as before it.
     Unkept,
+    /// A settle was cut at this moment, since what follows its first events wasn't kept: just these stand, as many as this.
+    CutUnkept {
+        now: u64,
+        events: u64,
+    },
 }
 
 /// What was done under the pass of this number.

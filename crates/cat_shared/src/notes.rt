@@ -3,9 +3,9 @@ ghost use Rattle.std.specs.Prelude.{◌≡◌, ◌⊎◌, true, IfOk};
 ghost use Rattle.cat_core.specs.declared.ledger.Ledger.{Ledger};
 ghost use Rattle.cat_desk.specs.Acts.{Acts};
 ghost use Rattle.cat_desk.specs.Deed.{deed_of};
-ghost use Rattle.cat_kept_desk.specs.Deeds.{IsUnkept, is_lost};
+ghost use Rattle.cat_kept_desk.specs.Deeds.{IsLost, is_keeper, is_lost};
 ghost use Rattle.cat_shared.specs.Book.{lacking};
-ghost use Rattle.cat_shared.specs.Notes.{IsNoteOf, IsNoted, is_noted, settled_note, worked};
+ghost use Rattle.cat_shared.specs.Notes.{IsNoteOf, IsNoted, is_noted, settled_note, unkept_note, worked};
 
 use crate::entry::{Input, Noted};
 use cat_core::catalogue::{Done, Stitched};
@@ -15,6 +15,13 @@ use cat_hold::layers::Layers;
 use cat_model::types::{Acted, Finished, Placed};
 use cat_ref::reference::Ref;
 use std::alloc::{AllocError, Global};
+
+// Whether a fault is the keeper's.
+fn is_keeper(fault: &CoreFault) -> bool
+    ensures { result ≡ is_keeper fault.now }
+{
+    matches!(fault, CoreFault::Keeper)
+}
 
 // Whether what was answered so acted, and is to be noted.
 fn is_noted(reply: &Reply) -> bool
@@ -28,16 +35,20 @@ fn is_noted(reply: &Reply) -> bool
         Reply::StitchTaken(_) => false,
         Reply::Placed(placed) => matches!(placed, Placed::Counted),
         Reply::Settled(counts) => counts.leases > 0 || counts.stitched > 0,
-        Reply::Cut(cut) => cut.events > 0,
+        Reply::Cut(cut) => !is_keeper(&cut.fault) && cut.events > 0,
         Reply::Refused(_) => false,
     }
 }
 
-// Whether what was answered so wasn't kept.
+// Whether what was answered so wasn't kept, or not all of it.
 fn is_lost(reply: &Reply) -> bool
     ensures { result ≡ is_lost reply.now }
 {
-    matches!(reply, Reply::Refused(CoreFault::Keeper))
+    match reply {
+        Reply::Refused(fault) => is_keeper(fault),
+        Reply::Cut(cut) => is_keeper(&cut.fault),
+        _ => false,
+    }
 }
 
 /// The reply to a command for which there is no room.
@@ -105,19 +116,20 @@ fn acted<L: Layers>(
 }
 
 /// What is noted of a command that came at this moment, whose order has this reference, if it brings one back: nothing where it changed nothing, and
-/// that it wasn't kept where it wasn't.
+/// that it or the rest of it wasn't kept where it wasn't.
+#[tactic(auto, using(crate::proofs::Losing::done_acts))]
 pub(crate) fn note<L: Layers>(
     command: Command<Done<'_, L>, Stitched<'_, L>>,
     reference: Option<Ref>,
     now: u64,
     reply: &Reply,
 ) -> Option<Noted>
-    requires acts { (old : Ledger) × (new : Ledger) × (Acts L.rules now (deed_of command) old new reply.now ⊎ IsUnkept (deed_of command) old new reply.now) }
+    requires acts { (old : Ledger) × (new : Ledger) × (Acts L.rules now (deed_of command) old new reply.now ⊎ IsLost L.rules now (deed_of command) old new reply.now) }
     requires reference { reference ≡ worked (deed_of command) }
     ensures { IsNoted now (deed_of command.entry) reply.now result }
 {
     if is_lost(reply) {
-        Some(Noted::Unkept)
+        Some(unkept(now, reply))
     } else if is_noted(reply) {
         Some(acted(command, reference, now, reply))
     } else {
@@ -129,6 +141,19 @@ fn changed(input: Input) -> Noted
     ensures { result ≡ Noted.Acted input Reply.Changed }
 {
     Noted::Acted(input, Reply::Changed)
+}
+
+// What is noted of a command that wasn't kept: of a settle, how many events stand.
+fn unkept(now: u64, reply: &Reply) -> Noted
+    ensures { result ≡ unkept_note now reply.now }
+{
+    match reply {
+        Reply::Cut(cut) => Noted::CutUnkept {
+            now,
+            events: cut.events,
+        },
+        _ => Noted::Unkept,
+    }
 }
 
 // What is noted of a settle, by whether want of memory cut it.

@@ -1,26 +1,25 @@
 //! What a book holds: a catalogue whose commands come at moments.
-ghost use Rattle.std.specs.Prelude.{◌≡◌, ◌≢◌, ◌≤◌, ◌⊎◌, ◌++◌, List, ℕ};
+ghost use Rattle.std.specs.Prelude.{◌≡◌, ◌≢◌, ◌≤◌, ◌⊎◌, ◌++◌, List, ℕ, true};
 ghost use Rattle.cat_core.specs.declared.ledger.Ledger.{Ledger};
 ghost use Rattle.cat_desk.specs.Acts.{Acts};
 ghost use Rattle.cat_desk.specs.Asks.{AsksOnce};
 ghost use Rattle.cat_desk.specs.Deed.{deed_of};
-ghost use Rattle.cat_fed.specs.Told.{Tells};
+ghost use Rattle.cat_kept_desk.specs.cat_fed.specs.Told.{Tells};
 ghost use Rattle.cat_feed.specs.declared.ledger.Ledger.{Ledger as Feed};
 ghost use Rattle.cat_io.specs.Causes.{Rose};
 ghost use Rattle.cat_io.specs.Clock.{CountsReading};
-ghost use Rattle.cat_kept_desk.specs.Deeds.{IsUnkept};
+ghost use Rattle.cat_kept_desk.specs.Deeds.{IsLost, is_lost};
 
 use cat_core::catalogue::{Catalogue, Done, Stitched};
-use cat_core::fault::CoreFault;
 use cat_desk::command::{Asked, Command, Reply};
 use cat_desk::desk::Desk;
-use cat_fed::desk::{FeedAnswer, FeedDesk};
-use cat_fed::fed::Fed;
 use cat_feed::change::Since;
 use cat_hold::layers::Layers;
 use cat_io::Clock;
 use cat_keeper::keeper::Keeper;
 use cat_kept_desk::KeptDesk;
+use cat_kept_desk::cat_fed::desk::{FeedAnswer, FeedDesk};
+use cat_kept_desk::cat_fed::fed::Fed;
 use cat_query::ask::Ask;
 use std::alloc::Global;
 
@@ -44,7 +43,8 @@ pub trait TimedDesk<L: Layers> {
     ghost faults: { Self → ℕ };
 
     /// Does what a command says, which stays with the caller, and answers it with the moment at which it came. Where its change isn't kept, the
-    /// catalogue is as before, and the answer is the keeper's fault, which comes only where the keeper's count rose in this call.
+    /// catalogue is as before, or has just the first events of a settle, as many as the answer says. The answer has the keeper's fault then, and only
+    /// where the keeper's count rose in this call.
     fn act_at(
         &mut self,
         alloc: Global,
@@ -52,12 +52,12 @@ pub trait TimedDesk<L: Layers> {
     ) -> (u64, Reply)
         ensures moment { result.0 ≡ moment self.new }
         ensures acts { Acts L.rules (moment self.new) (deed_of command.now) (ledger self.old) (ledger self.new) result.1
-            ⊎ IsUnkept (deed_of command.now) (ledger self.old) (ledger self.new) result.1 }
+            ⊎ IsLost L.rules (moment self.new) (deed_of command.now) (ledger self.old) (ledger self.new) result.1 }
         ensures reads { CountsReading (readings self.old) (readings self.new) }
         ensures ticks { ticks self.old self.new }
         ensures feed { feed self.new ≡ feed self.old }
         ensures later { faults self.old ≤ faults self.new }
-        ensures cause { result.1 ≡ Reply.Refused CoreFault.Keeper → Rose (faults self.old) (faults self.new) };
+        ensures cause { is_lost result.1 ≡ true → Rose (faults self.old) (faults self.new) };
 
     /// Lends the catalogue.
     fn catalogue(&self) -> &Catalogue<L>

@@ -3,8 +3,8 @@ ghost use Rattle.std.specs.Prelude.{◌≡◌, ◌≢◌, ◌⊎◌, ◌++◌, I
 ghost use Rattle.cat_desk.specs.Asks.{AsksOnce};
 ghost use Rattle.cat_desk.specs.Deed.{deed_of};
 ghost use Rattle.cat_desk.specs.declared.command.Asked.TheVariants as asked;
-ghost use Rattle.cat_fed.specs.Told.{Tells};
-ghost use Rattle.cat_fed.specs.declared.desk.FeedAnswer.TheVariants as told;
+ghost use Rattle.cat_kept_desk.specs.cat_fed.specs.Told.{Tells};
+ghost use Rattle.cat_kept_desk.specs.cat_fed.specs.declared.desk.FeedAnswer.TheVariants as told;
 ghost use Rattle.cat_shared.specs.Book.{Does, Lacks};
 
 use crate::book::{Book, Named};
@@ -12,9 +12,9 @@ use crate::timed::TimedDesk;
 use crate::work::Work;
 use cat_core::catalogue::{Done, Stitched};
 use cat_desk::command::{Asked, Command, Reply};
-use cat_fed::desk::FeedAnswer;
 use cat_feed::change::Since;
 use cat_hold::layers::Layers;
+use cat_kept_desk::cat_fed::desk::FeedAnswer;
 use cat_query::ask::Ask;
 use cat_search::index::Index;
 use std::alloc::{AllocError, Global};

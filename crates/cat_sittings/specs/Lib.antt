@@ -1,1 +1,3 @@
 pub mod Sittings
+pub use Rattle.cat_store
+pub use Rattle.cat_stored

@@ -11,3 +11,7 @@
 mod sessions;
 
 pub use sessions::sittings;
+
+// What this crate stands on and hands on.
+pub use cat_store;
+pub use cat_stored;

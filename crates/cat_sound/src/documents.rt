@@ -2,9 +2,9 @@
 ghost use Rattle.std.specs.Prelude.{◌≡◌, IfOk, option_map};
 ghost use Rattle.cat_table.specs.Table.{tabulate, text_cmp};
 ghost use Rattle.cat_model.specs.Catalogue.{known_refs, parts};
-ghost use Rattle.cat_frame.specs.Linked.{AreLinked, AreRecorded, linked_parts};
+ghost use Rattle.cat_events.specs.cat_frame.specs.Linked.{AreLinked, AreRecorded, linked_parts};
 
-use cat_frame::parts::parts_of;
+use cat_events::cat_frame::parts::parts_of;
 use cat_hold::build::{Gives, tabulated};
 use cat_hold::layers::Layers;
 use cat_hold::parts::{Present, append};

@@ -6,15 +6,15 @@ use Rattle.std.specs.declared.option.Option.{Option}
 use Rattle.std.specs.declared.option.Option.TheVariants.{None, Some}
 use Rattle.std.specs.declared.result.Result.{Result}
 use Rattle.std.specs.declared.result.Result.TheVariants.{Ok, Err}
-use Rattle.cat_core.specs.Answer.{stop_answer}
-use Rattle.cat_core.specs.declared.fault.Cut.{Cut as CutSettle}
-use Rattle.cat_core.specs.declared.ledger.Ledger.{Ledger}
+use Rattle.cat_desk.specs.cat_core.specs.Answer.{stop_answer}
+use Rattle.cat_desk.specs.cat_core.specs.declared.fault.Cut.{Cut as CutSettle}
+use Rattle.cat_desk.specs.cat_core.specs.declared.ledger.Ledger.{Ledger}
 use Rattle.cat_desk.specs.Acts.{Acts, IsExact, after_deed, answered, deed_reply, done, event_reply, or_refused, settle_reply, settled_as}
 use Rattle.cat_desk.specs.Deed.{Deed}
 use Rattle.cat_desk.specs.Deed.Deed.{Mutate, ShelfPut, ShelfDrop, Refresh, Forget, ForgetNumber, Take, Finish, TakeStitch, PutStitch, Settle}
 use Rattle.cat_desk.specs.declared.command.Reply.{Reply}
 use Rattle.cat_desk.specs.declared.command.Reply.TheVariants as replies
-use Rattle.cat_loop.specs.Word.{Word, plain, memory, cut, unkept}
+use Rattle.cat_loop.specs.Word.{Word, plain, memory, cut, unkept, cut_unkept}
 use Rattle.cat_model.specs.Catalogue.{Rules}
 use Rattle.cat_model.specs.contracts.types.State.{the_row as state_row}
 use Rattle.cat_model.specs.Reply.{acted, finished, taken}
@@ -80,6 +80,7 @@ module _ (rules : Rules) (s : Settings) (now : ℕ) (m : State) where
   worded_stays memory d h = refl
   worded_stays (cut n) d h = stays (Some n) d h
   worded_stays unkept d h = stays None d h
+  worded_stays (cut_unkept i) d h = stays None d h
 
   -- what is cut short is a settle, which is answered so
   cut_says : (n : ℕ) (d : Deed) → d ≡ Settle → says_whole (answered rules s now (Some n) d m) ≡ false
@@ -90,6 +91,7 @@ module _ (rules : Rules) (s : Settings) (now : ℕ) (m : State) where
   worded_whole memory d exact h = absurd (true≢false (sym h))
   worded_whole (cut n) d exact h = absurd (true≢false (sym h ∙ cut_says n d exact.0))
   worded_whole unkept d exact h = refl
+  worded_whole (cut_unkept i) d exact h = refl
 
 -- where the reply says so, the records are as before
 pub acts_stays : (rules : Rules) (now : ℕ) (d : Deed) (old new : Ledger) (reply : Reply) → Acts rules now d old new reply → leaves_records reply ≡ true → new.state.records ≡ old.state.records

@@ -1,1 +1,3 @@
 pub mod Spare
+pub use Rattle.cat_desk.specs.cat_core
+pub use Rattle.cat_desk

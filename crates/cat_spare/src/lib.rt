@@ -8,3 +8,7 @@
 #![tactic(auto)]
 
 pub mod spare;
+
+// What this crate stands on and hands on.
+pub use cat_desk;
+pub use cat_desk::cat_core;

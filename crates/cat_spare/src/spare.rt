@@ -6,10 +6,10 @@ ghost use Rattle.cat_desk.specs.Acts.{Acts, done};
 ghost use Rattle.cat_desk.specs.Deed.{deed_of};
 ghost use Rattle.cat_spare.specs.Spare.{IsSpare, leaves_records, says_whole};
 
-use cat_core::catalogue::{Catalogue, Done, Saved, Stitched};
+use cat_desk::cat_core::catalogue::{Catalogue, Done, Saved, Stitched};
+use cat_desk::cat_hold::layers::Layers;
 use cat_desk::command::{Command, Reply};
 use cat_desk::timed::act;
-use cat_hold::layers::Layers;
 use cat_model::types::Acted;
 use cat_types::input::Mutation;
 use std::alloc::{AllocError, Global};

@@ -1,3 +1,4 @@
 pub mod Uid
 pub mod Issues
 pub mod Document
+pub use Rattle.cat_types

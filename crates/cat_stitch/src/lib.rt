@@ -9,3 +9,6 @@ pub mod issues;
 pub mod laws;
 pub mod make;
 pub mod uid;
+
+// What this crate stands on and hands on.
+pub use cat_types;

@@ -9,3 +9,4 @@ pub mod Accepting
 pub mod Naming
 pub mod Ruling
 pub mod Keeping
+pub mod Begun

@@ -9,7 +9,7 @@ use Rattle.cat_table.specs.Table.{find, get, put, text_cmp}
 use Rattle.cat_table.proofs.Tables.{and_first, and_second, text_total}
 use Rattle.cat_model.specs.Catalogue.{Ref, Rules}
 use Rattle.cat_model.specs.Step.{change, is_present_stitch, leased, next_taken, refresh, refusal, step, take, take_next, with_record, without_key}
-use Rattle.cat_model.specs.Step.Event.{PutStitch, Refresh, Take}
+use Rattle.cat_model.specs.Step.Event.{PutStitch, Refresh, Take, TakeAt}
 use Rattle.cat_model.specs.Step.{Event}
 use Rattle.cat_model.specs.declared.types.Lease.{Lease}
 use Rattle.cat_model.specs.declared.types.OrphanRule.{OrphanRule}
@@ -91,18 +91,21 @@ module _ (rules : Rules) (s : Settings) (rule : OrphanRule) where
   unfolding stored
   with_token m n token same = same
 
+  taken_still : (now : ℕ) (m : State) → is_sorted text_cmp m.records ≡ true → (r : Ref) (v : Option Record) → get m.records r ≡ v → stored rule (take s r now m v) ≡ stored rule m
+  taken_still now m sorted r None at = refl
+  taken_still now m sorted r (Some x) at =
+      let lease : Option Lease = Some (record { token = m.token; expires = now + s.lease }) in
+      with_token m (with_record r (leased x.due x lease) m) (m.token + 1) (leased_still m r x x.due lease sorted at)
+
   pub take_still : (now : ℕ) (m : State) → is_sorted text_cmp m.records ≡ true → stored rule (step rules s (Take now) m) ≡ stored rule m
   take_still now m sorted = step_still (Take now) m (next (next_taken now m))
     where
-      one : (r : Ref) (v : Option Record) → get m.records r ≡ v → stored rule (take s r now m v) ≡ stored rule m
-      one r None at = refl
-      one r (Some x) at =
-          let lease : Option Lease = Some (record { token = m.token; expires = now + s.lease }) in
-          with_token m (with_record r (leased x.due x lease) m) (m.token + 1) (leased_still m r x x.due lease sorted at)
-
       next : (v : Option Ref) → stored rule (take_next s now m v) ≡ stored rule m
       next None = refl
-      next (Some r) = one r (get m.records r) refl
+      next (Some r) = taken_still now m sorted r (get m.records r) refl
+
+  pub take_at_still : (r : Ref) (now : ℕ) (m : State) → is_sorted text_cmp m.records ≡ true → stored rule (step rules s (TakeAt r now) m) ≡ stored rule m
+  take_at_still r now m sorted = step_still (TakeAt r now) m (taken_still now m sorted r (get m.records r) refl)
 
   pub put_stitch_still : (order : StitchOrder) (m : State) → stored rule (step rules s (PutStitch order) m) ≡ stored rule m
   unfolding stored

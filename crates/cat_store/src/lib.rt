@@ -17,3 +17,10 @@ pub mod open;
 pub mod reached;
 pub mod store;
 mod tells;
+
+// What this crate stands on and hands on.
+pub use cat_renewed;
+pub use cat_renewed::cat_reopened;
+pub use cat_rows;
+pub use cat_sound::{cat_events, cat_hold};
+pub use cat_tables;

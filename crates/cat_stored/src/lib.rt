@@ -13,3 +13,7 @@
 mod stored;
 
 pub use stored::{Ran, run_stored, run_stored_connection, unopened};
+
+// What this crate stands on and hands on.
+pub use cat_kept;
+pub use cat_kept_wire;

@@ -17,3 +17,7 @@ pub mod base;
 pub mod location;
 pub mod resolve;
 pub mod target;
+
+// What this crate stands on and hands on.
+pub use cat_ref;
+pub use cat_ref::cat_tree;

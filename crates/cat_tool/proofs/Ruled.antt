@@ -6,7 +6,7 @@ use Rattle.std.specs.Io.KnownBytes.{Appends}
 use Rattle.cat_loop.specs.Lines.{lines as lines_of, longest_line, whole_lines}
 use Rattle.cat_loop.specs.Runs.{Answers, BreaksOff, after_lines, line_after, line_reply, replies}
 use Rattle.cat_loop.specs.Session.{Outcome, Transcript, WritesPart, WritesReplies}
-use Rattle.cat_loop.specs.Word.{Word, plain, memory, cut, unkept}
+use Rattle.cat_loop.specs.Word.{Word, plain, memory, cut, unkept, cut_unkept}
 use Rattle.cat_loop.specs.declared.line_loop.SessionEnd.{SessionEnd}
 use Rattle.cat_loop.specs.declared.line_loop.SessionEnd.TheVariants.{Whole, ReadFault, WriteFault, Bound, NoMemory}
 use Rattle.cat_model.specs.Catalogue.{Rules}
@@ -37,6 +37,7 @@ module _ (rules : Rules) (rule : OrphanRule) where
   line_is m memory line = refl
   line_is m (cut n) line = either (nat_lt longest_line (length line)) m (session_after rules s m (cut n) line)
   line_is m unkept line = either (nat_lt longest_line (length line)) m (session_after rules s m unkept line)
+  line_is m (cut_unkept i) line = either (nat_lt longest_line (length line)) m (session_after rules s m (cut_unkept i) line)
 
   says_is : (m : SessionState) (w : Word) (line : List ℕ) → line_reply (ruled_reply rules) (ruled m) w line ≡ line_reply (session_reply rules s) m w line
   unfolding line_reply
@@ -44,6 +45,7 @@ module _ (rules : Rules) (rule : OrphanRule) where
   says_is m memory line = refl
   says_is m (cut n) line = refl
   says_is m unkept line = refl
+  says_is m (cut_unkept i) line = refl
 
   lines_are : (m : SessionState) (lines : List (List ℕ)) (words : List Word) → after_lines (ruled_after rules) (ruled m) lines words ≡ ruled (after_lines (session_after rules s) m lines words)
   lines_are m [] words = refl

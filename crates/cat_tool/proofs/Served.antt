@@ -4,7 +4,7 @@ use Rattle.std.specs.declared.option.Option.{Option}
 use Rattle.cat_api.proofs.Serving.{acts_at, asks_at, is_worded, tells_at, wired, IsAtZero}
 use Rattle.cat_api.specs.Answering.{AnswersBytes, Lacks}
 use Rattle.cat_api.specs.Wire.{Wired, wire_after, wire_reply}
-use Rattle.cat_core.specs.declared.ledger.Ledger.{Ledger}
+use Rattle.cat_sample.specs.cat_core.specs.declared.ledger.Ledger.{Ledger}
 use Rattle.cat_feed.specs.declared.ledger.Ledger.{Ledger as Feed}
 use Rattle.cat_model.specs.Catalogue.{Rules}
 use Rattle.cat_requests.specs.Requests.{request_of}

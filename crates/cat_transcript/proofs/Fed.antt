@@ -28,7 +28,7 @@ use Rattle.cat_commands.specs.declared.line.Line.{Line}
 use Rattle.cat_commands.specs.declared.line.Line.TheVariants as asks
 use Rattle.cat_loop.specs.Lines.{longest_line}
 use Rattle.cat_loop.specs.Runs.{line_after, after_lines}
-use Rattle.cat_loop.specs.Word.{Word, plain, memory, cut, unkept}
+use Rattle.cat_loop.specs.Word.{Word, plain, memory, cut, unkept, cut_unkept}
 use Rattle.cat_transcript.specs.Inputs.{Inputs, accepted_at, accepted_commands, accepted_of, command_of, inputs_after, inputs_fold, inputs_of, unrefused}
 use Rattle.cat_transcript.specs.Session.{after_finish, after_place, after_reading, after_result, limit_of, order_numbered, session_after, with_stitch}
 use Rattle.cat_transcript.specs.declared.state.SessionState.{SessionState}
@@ -191,6 +191,7 @@ module _ (rules : Rules) (s : Settings) where
   line_fold m memory line = refl
   line_fold m (cut n) line = either_fold m (cut n) line (nat_lt longest_line (length line)) refl
   line_fold m unkept line = either_fold m unkept line (nat_lt longest_line (length line)) refl
+  line_fold m (cut_unkept i) line = either_fold m (cut_unkept i) line (nat_lt longest_line (length line)) refl
 
   pub lines_fold : (m : SessionState) (lines : List (List ℕ)) (words : List Word) → inputs_of (after_lines (session_after rules s) m lines words).state ≡ inputs_fold (accepted_commands rules s m lines words) (inputs_of m.state)
   lines_fold m [] words = refl

@@ -6,7 +6,7 @@ use Rattle.std.specs.declared.result.Result.{Result}
 use Rattle.std.specs.declared.result.Result.TheVariants.{Ok, Err}
 use Rattle.std.specs.Ordering.{nat_cmp}
 use Rattle.cat_table.specs.Table.{find}
-use Rattle.cat_loop.specs.Word.{Word, plain, memory, cut, unkept}
+use Rattle.cat_loop.specs.Word.{Word, plain, memory, cut, unkept, cut_unkept}
 use Rattle.cat_loop.specs.Runs.{line_after, after_lines}
 use Rattle.cat_loop.specs.Lines.{longest_line}
 use Rattle.cat_commands.specs.Lines.{line_of}
@@ -79,6 +79,7 @@ module _ (rules : Rules) (s : Settings) (P : State → Type 0) (steps : (e : Eve
   line_kept m memory line kept = kept
   line_kept m (cut n) line kept = either_kept (nat_lt longest_line (length line)) m _ kept (after_kept m (cut n) line kept)
   line_kept m unkept line kept = either_kept (nat_lt longest_line (length line)) m _ kept (after_kept m unkept line kept)
+  line_kept m (cut_unkept i) line kept = either_kept (nat_lt longest_line (length line)) m _ kept (after_kept m (cut_unkept i) line kept)
 
   pub lines_kept : (m : SessionState) (lines : List (List ℕ)) (words : List Word) → P m.state → P (after_lines (session_after rules s) m lines words).state
   lines_kept m [] words kept = kept

@@ -12,8 +12,8 @@ use Rattle.cat_tree.specs.declared.read.TreeFault.TheVariants as tree
 use Rattle.cat_types.specs.declared.input.Mutation.{Mutation}
 use Rattle.cat_inputs.specs.declared.fault.InputFault.{InputFault}
 use Rattle.cat_inputs.specs.declared.fault.InputFault.TheVariants as input
-use Rattle.cat_query.specs.declared.fault.QueryFault.{QueryFault}
-use Rattle.cat_query.specs.declared.fault.QueryFault.TheVariants as query
+use Rattle.cat_commands.specs.cat_query.specs.declared.fault.QueryFault.{QueryFault}
+use Rattle.cat_commands.specs.cat_query.specs.declared.fault.QueryFault.TheVariants as query
 use Rattle.cat_commands.specs.Lines.{line_of}
 use Rattle.cat_commands.specs.declared.fault.LineFault.{LineFault}
 use Rattle.cat_commands.specs.declared.fault.LineFault.TheVariants.{LongLine, BadWord, BadArguments, Input, Reference, Query, NoMemory}
@@ -21,7 +21,7 @@ use Rattle.cat_commands.specs.declared.line.Line.{Line}
 use Rattle.cat_commands.specs.declared.line.Line.TheVariants as asks
 use Rattle.cat_loop.specs.Lines.{longest_line}
 use Rattle.cat_loop.specs.Runs.{line_after, line_reply}
-use Rattle.cat_loop.specs.Word.{Word, plain, memory, cut, unkept}
+use Rattle.cat_loop.specs.Word.{Word, plain, memory, cut, unkept, cut_unkept}
 use Rattle.cat_model.specs.Catalogue.{Rules}
 use Rattle.cat_model.specs.Given.{given}
 use Rattle.cat_model.specs.Reply as model
@@ -167,6 +167,7 @@ settle_spoken plain p = stop_spoken p p.stop
 settle_spoken memory p = stop_spoken p p.stop
 settle_spoken (cut n) p = cut_spoken p.events
 settle_spoken unkept p = stop_spoken p p.stop
+settle_spoken (cut_unkept i) p = stop_spoken p p.stop
 
 -- a settle that isn't stopped has another reply than one that is
 stop_settled : (p : Progress) (x : Counts) (o : Option Stop) → stop_reply p o ≡ say.settled x → o ≡ None
@@ -312,12 +313,21 @@ module _ (rules : Rules) (s : Settings) where
   settle_told m (cut k) memory a b e = absurd (whole_told rules s m.now m.state _ (sym e))
   settle_told m (cut k) (cut n) a b e = cut_told rules s m.now m.state k n a b e
   settle_told m unkept plain a b e = refl
+  settle_told m (cut_unkept i) plain a b e = refl
   settle_told m unkept memory a b e = refl
+  settle_told m (cut_unkept i) memory a b e = refl
   settle_told m unkept (cut n) a b e = absurd (whole_told rules s m.now m.state _ e)
+  settle_told m (cut_unkept i) (cut n) a b e = absurd (whole_told rules s m.now m.state _ e)
   settle_told m plain unkept a b e = refl
+  settle_told m plain (cut_unkept i) a b e = refl
   settle_told m memory unkept a b e = refl
+  settle_told m memory (cut_unkept i) a b e = refl
   settle_told m (cut k) unkept a b e = absurd (whole_told rules s m.now m.state _ (sym e))
+  settle_told m (cut k) (cut_unkept i) a b e = absurd (whole_told rules s m.now m.state _ (sym e))
   settle_told m unkept unkept a b e = refl
+  settle_told m unkept (cut_unkept i) a b e = refl
+  settle_told m (cut_unkept i) unkept a b e = refl
+  settle_told m (cut_unkept i) (cut_unkept j) a b e = refl
 
   read_told : (m : SessionState) (w v : Word) (line : Line) → IsCounted w → IsCounted v → reply_to rules s w line m ≡ reply_to rules s v line m → after_reading rules s w line m ≡ after_reading rules s v line m
   read_told m w v (asks.Mutate p x) a b e = refl
@@ -365,12 +375,21 @@ module _ (rules : Rules) (s : Settings) where
   told m (cut k) memory line a b e = memory_told m (cut k) line (nat_lt longest_line (length line)) e
   told m (cut k) (cut n) line a b e = acting_told m (cut k) (cut n) line (nat_lt longest_line (length line)) a b e
   told m unkept plain line a b e = acting_told m unkept plain line (nat_lt longest_line (length line)) a b e
+  told m (cut_unkept i) plain line a b e = acting_told m (cut_unkept i) plain line (nat_lt longest_line (length line)) a b e
   told m unkept memory line a b e = memory_told m unkept line (nat_lt longest_line (length line)) e
+  told m (cut_unkept i) memory line a b e = memory_told m (cut_unkept i) line (nat_lt longest_line (length line)) e
   told m unkept (cut n) line a b e = acting_told m unkept (cut n) line (nat_lt longest_line (length line)) a b e
+  told m (cut_unkept i) (cut n) line a b e = acting_told m (cut_unkept i) (cut n) line (nat_lt longest_line (length line)) a b e
   told m plain unkept line a b e = acting_told m plain unkept line (nat_lt longest_line (length line)) a b e
+  told m plain (cut_unkept i) line a b e = acting_told m plain (cut_unkept i) line (nat_lt longest_line (length line)) a b e
   told m memory unkept line a b e = sym (memory_told m unkept line (nat_lt longest_line (length line)) (sym e))
+  told m memory (cut_unkept i) line a b e = sym (memory_told m (cut_unkept i) line (nat_lt longest_line (length line)) (sym e))
   told m (cut k) unkept line a b e = acting_told m (cut k) unkept line (nat_lt longest_line (length line)) a b e
+  told m (cut k) (cut_unkept i) line a b e = acting_told m (cut k) (cut_unkept i) line (nat_lt longest_line (length line)) a b e
   told m unkept unkept line a b e = refl
+  told m unkept (cut_unkept i) line a b e = acting_told m unkept (cut_unkept i) line (nat_lt longest_line (length line)) a b e
+  told m (cut_unkept i) unkept line a b e = acting_told m (cut_unkept i) unkept line (nat_lt longest_line (length line)) a b e
+  told m (cut_unkept i) (cut_unkept j) line a b e = acting_told m (cut_unkept i) (cut_unkept j) line (nat_lt longest_line (length line)) a b e
 
   -- a line that is answered so changes nothing
   pub unspoken : (m : SessionState) (w : Word) (line : List ℕ) → line_reply (session_reply rules s) m w line ≡ say.no_memory → line_after (session_after rules s) m w line ≡ m
@@ -379,6 +398,7 @@ module _ (rules : Rules) (s : Settings) where
   unspoken m memory line e = refl
   unspoken m (cut n) line e = memory_told m (cut n) line (nat_lt longest_line (length line)) e
   unspoken m unkept line e = memory_told m unkept line (nat_lt longest_line (length line)) e
+  unspoken m (cut_unkept i) line e = memory_told m (cut_unkept i) line (nat_lt longest_line (length line)) e
 
   acting_cuts : (m : SessionState) (w : Word) (line : List ℕ) (is_long : Bool) (n : ℕ)
       → (if is_long then long else session_reply rules s m w line) ≡ say.cut_by_memory n → MayBeCut (line_of line)
@@ -393,6 +413,7 @@ module _ (rules : Rules) (s : Settings) where
   only_settles m memory line n e = absurd (memory_uncut n e)
   only_settles m (cut k) line n e = acting_cuts m (cut k) line (nat_lt longest_line (length line)) n e
   only_settles m unkept line n e = acting_cuts m unkept line (nat_lt longest_line (length line)) n e
+  only_settles m (cut_unkept i) line n e = acting_cuts m (cut_unkept i) line (nat_lt longest_line (length line)) n e
 
   -- ---- a settle that is answered `settled`
 
@@ -401,6 +422,7 @@ module _ (rules : Rules) (s : Settings) where
   settle_quiet m memory counts later sound e = unstopped_quiet rules s None m.now later m.state sound (stop_settled (settled rules s memory m) counts (settled rules s memory m).stop e)
   settle_quiet m (cut n) counts later sound e = absurd (cut_settled (settled rules s (cut n) m).events counts e)
   settle_quiet m unkept counts later sound e = unstopped_quiet rules s None m.now later m.state sound (stop_settled (settled rules s unkept m) counts (settled rules s unkept m).stop e)
+  settle_quiet m (cut_unkept i) counts later sound e = unstopped_quiet rules s None m.now later m.state sound (stop_settled (settled rules s (cut_unkept i) m) counts (settled rules s (cut_unkept i) m).stop e)
 
   acting_quiet : (m : SessionState) (w : Word) (line : List ℕ) (counts : Counts) (is_long : Bool) → 1 ≤ s.interval → Sound rules m.state → line_of line ≡ Ok asks.Settle
       → (if is_long then long else session_reply rules s m w line) ≡ say.settled counts → IsAtRest (if is_long then m else session_after rules s m w line)
@@ -416,3 +438,4 @@ module _ (rules : Rules) (s : Settings) where
   settled_quiet m memory line counts later sound reads e = absurd (memory_settled counts e)
   settled_quiet m (cut n) line counts later sound reads e = acting_quiet m (cut n) line counts (nat_lt longest_line (length line)) later sound reads e
   settled_quiet m unkept line counts later sound reads e = acting_quiet m unkept line counts (nat_lt longest_line (length line)) later sound reads e
+  settled_quiet m (cut_unkept i) line counts later sound reads e = acting_quiet m (cut_unkept i) line counts (nat_lt longest_line (length line)) later sound reads e

@@ -10,7 +10,7 @@ use Rattle.cat_commands.specs.declared.fault.LineFault.{LineFault}
 use Rattle.cat_commands.specs.declared.line.Line.{Line}
 use Rattle.cat_commands.specs.declared.line.Line.TheVariants as asks
 use Rattle.cat_loop.specs.Runs.{line_after}
-use Rattle.cat_loop.specs.Word.{Word, plain, memory, cut, unkept}
+use Rattle.cat_loop.specs.Word.{Word, plain, memory, cut, unkept, cut_unkept}
 use Rattle.cat_model.specs.Catalogue.{Rules}
 use Rattle.cat_model.specs.Given.{given}
 use Rattle.cat_model.specs.Step.{Event, items_after, refusal, source_at, without_key}
@@ -75,6 +75,7 @@ accepted_at rules s m plain line = accepted_of rules s m (line_of line)
 accepted_at rules s m memory line = []
 accepted_at rules s m (cut n) line = accepted_of rules s m (line_of line)
 accepted_at rules s m unkept line = accepted_of rules s m (line_of line)
+accepted_at rules s m (cut_unkept n) line = accepted_of rules s m (line_of line)
 
 -- the accepted commands of lines, each with its word
 abbrev pub accepted_commands : Rules → Settings → SessionState → List (List ℕ) → List Word → List Event

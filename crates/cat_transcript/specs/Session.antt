@@ -7,7 +7,7 @@ use Rattle.std.specs.declared.result.Result.TheVariants.{Ok, Err}
 use Rattle.std.specs.Ordering.{nat_cmp}
 use Rattle.cat_table.specs.Table.{find, put}
 use Rattle.cat_transcript.specs.declared.state.SessionState.{SessionState}
-use Rattle.cat_loop.specs.Word.{Word, plain, memory, cut, unkept}
+use Rattle.cat_loop.specs.Word.{Word, plain, memory, cut, unkept, cut_unkept}
 use Rattle.cat_commands.specs.Lines.{line_of}
 use Rattle.cat_commands.specs.declared.line.Line.{Line}
 use Rattle.cat_commands.specs.declared.line.Line.TheVariants as asks
@@ -86,6 +86,7 @@ limit_of plain = None
 limit_of memory = None
 limit_of (cut n) = Some n
 limit_of unkept = None
+limit_of (cut_unkept n) = None
 
 -- how far the settle of a line comes, by the word of the line
 abbrev pub settled : Rules → Settings → Word → SessionState → Progress
@@ -165,6 +166,7 @@ settle_reply plain p = stop_reply p p.stop
 settle_reply memory p = stop_reply p p.stop
 settle_reply (cut n) p = say.cut_by_memory p.events
 settle_reply unkept p = stop_reply p p.stop
+settle_reply (cut_unkept n) p = stop_reply p p.stop
 
 -- the reply to a line that has a reading
 abbrev pub reply_to : Rules → Settings → Word → Line → SessionState → List ℕ

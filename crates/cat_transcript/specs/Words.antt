@@ -5,7 +5,7 @@ use Rattle.std.specs.declared.result.Result.TheVariants.{Ok}
 use Rattle.cat_commands.specs.declared.fault.LineFault.{LineFault}
 use Rattle.cat_commands.specs.declared.line.Line.{Line}
 use Rattle.cat_commands.specs.declared.line.Line.TheVariants as asks
-use Rattle.cat_loop.specs.Word.{Word, plain, memory, cut, unkept}
+use Rattle.cat_loop.specs.Word.{Word, plain, memory, cut, unkept, cut_unkept}
 
 -- a settle that is cut counts its events in 64 bits
 abbrev pub IsCounted : Word → Type 0
@@ -13,6 +13,7 @@ IsCounted plain = ⊤
 IsCounted memory = ⊤
 IsCounted (cut n) = n < 2 ^ 64
 IsCounted unkept = ⊤
+IsCounted (cut_unkept n) = ⊤
 
 -- the line is a settle, or a question, whose answer may be any text
 abbrev pub MayBeCut : Result Line LineFault → Type 0

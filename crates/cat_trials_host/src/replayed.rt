@@ -7,14 +7,14 @@ use cat_core::fault::CoreFault;
 use cat_desk::command::{Command, Reply};
 use cat_desk::desk::Desk;
 use cat_host::Share;
+use cat_host::cat_shared::entry::{Entry, Input, Noted};
+use cat_host::cat_shared::shared::SharedDesk;
 use cat_inputs::form::Form;
 use cat_inputs::input::read_mutation;
 use cat_layers::layered::Layered;
 use cat_model::types::{Order, OrphanRule, State};
 use cat_query::answers::push_list;
 use cat_query::read::read_query;
-use cat_shared::entry::{Entry, Input, Noted};
-use cat_shared::shared::SharedDesk;
 use cat_transcript::settings::settings;
 use cat_tree::text::Text;
 use cat_turns::{Pass, Turns};
@@ -244,7 +244,7 @@ impl Player {
             Noted::Finished { token, .. } => self.finish(alloc, *token),
             Noted::Stitched { ticket, .. } => self.place(alloc, *ticket),
             Noted::Settled { .. } => Ok(self.catalogue.settle(alloc, 0).is_ok()),
-            Noted::Cut { .. } | Noted::Unkept => Ok(false),
+            Noted::Cut { .. } | Noted::Unkept | Noted::CutUnkept { .. } => Ok(false),
         }
     }
 }

@@ -5,7 +5,7 @@ use cat_io::{MemorySink, MemorySource};
 use cat_keeper::keeper::Place;
 use cat_keeper::memory::MemoryKeeper;
 use cat_keeper::rows::apply;
-use cat_stored::run_stored;
+use cat_sittings::cat_stored::run_stored;
 use cat_table::map::Map;
 use std::alloc::{AllocError, Global};
 use std::test::Fail;

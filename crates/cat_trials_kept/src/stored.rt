@@ -5,7 +5,7 @@ use cat_keeper::keeper::Place;
 use cat_keeper::memory::MemoryKeeper;
 use cat_keeper::rows::StoredRows;
 use cat_keeper::table::Table;
-use cat_stored::{Ran, run_stored, run_stored_connection};
+use cat_sittings::cat_stored::{Ran, run_stored, run_stored_connection};
 use cat_table::map::Map;
 use cat_tree::text::Text;
 use std::alloc::{AllocError, Global};
@@ -49,25 +49,26 @@ fn session_over(
 const OWNER: &[u8] =
     b"full git {\"serial\":1,\"entities\":[{\"entity\":{\"apiVersion\":\"backstage.io/v1alpha1\",\"kind\":\"Component\",\"metadata\":{\"name\":\"web\"},\"spec\":{\"type\":\"service\",\"lifecycle\":\"production\",\"owner\":\"a\"}}}]}\n";
 
-// The call of the keeper that fails, the status, what is written to two mutations, a settle and the state, and what a second session writes.
+// The call of the keeper that fails, the status, what is written to two mutations, a settle, the state and another settle, and what a second
+// session writes. A settle that is cut has leased the record, and the next one goes on.
 const CASES: [(u64, u8, &[u8], &[u8]); 4] = [
     (1, 5, b"", NOTHING),
     (
         2,
         0,
-        b"refused keeper\nok\nsettled 1 1 1\nstate records 1 orphans 0 due 0 leased 0 marked 0\n",
+        b"refused keeper\nok\nsettled 1 1 1\nstate records 1 orphans 0 due 0 leased 0 marked 0\nsettled 0 0 0\n",
         DUE,
     ),
     (
         3,
         0,
-        b"ok\nok again\nrefused keeper\nstate records 1 orphans 0 due 1 leased 0 marked 0\n",
+        b"ok\nok again\ncut 1 keeper\nstate records 1 orphans 0 due 1 leased 1 marked 0\nsettled 1 1 1\n",
         DUE,
     ),
     (
         9,
         0,
-        b"ok\nok again\nsettled 1 1 1\nstate records 1 orphans 0 due 0 leased 0 marked 0\n",
+        b"ok\nok again\nsettled 1 1 1\nstate records 1 orphans 0 due 0 leased 0 marked 0\nsettled 0 0 0\n",
         DUE,
     ),
 ];
@@ -78,7 +79,7 @@ fn two_sessions(
     failing: u64,
 ) -> Result<(Status, MemorySink, MemorySink), AllocError> {
     let keeper = keeper_of(alloc, &[], failing)?;
-    let lines = [OWNER, OWNER, b"settle\nstate\n"].concat(alloc)?;
+    let lines = [OWNER, OWNER, b"settle\nstate\nsettle\n"].concat(alloc)?;
     let (ran, first) = session_over(alloc, keeper, lines.as_slice())?;
     let (_, second) = session_over(alloc, ran.keeper, b"state\nquiet\n")?;
     Ok((ran.status, first, second))

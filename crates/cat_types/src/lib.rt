@@ -19,3 +19,8 @@ pub mod relation;
 pub mod same;
 pub mod sorted;
 pub mod work;
+
+// What this crate stands on and hands on.
+pub use cat_ref;
+pub use cat_ref::cat_tree;
+pub use cat_table;

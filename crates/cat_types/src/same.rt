@@ -7,9 +7,9 @@ use crate::issue::{Issue, IssueName, Level};
 use crate::parts::Parts;
 use crate::relation::Relation;
 use crate::work::{Content, Work};
+use cat_ref::cat_tree::text::Text;
 use cat_ref::reference::Ref;
 use cat_table::key::Key;
-use cat_tree::text::Text;
 use std::cmp::Ordering;
 
 /// What can be tested for equality.

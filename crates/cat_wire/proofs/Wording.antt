@@ -4,7 +4,7 @@ use Rattle.std.specs.Prelude.{Option, None, Some, IfSome}
 use Rattle.cat_http.specs.declared.message.Message.{Message}
 use Rattle.cat_wire.specs.Items.{Item, message, refusal}
 use Rattle.cat_wire.specs.Runs.{Answering, Lacking, AnswersItem, AnswersItems, memory_reply}
-use Rattle.cat_wire.specs.Worded.{Word, plain, memory, cut, untold, unkept, IsAnswered, After, Reply, item_after, item_reply, after_items, replies, HasWords, IsWorded}
+use Rattle.cat_wire.specs.Worded.{Word, plain, memory, cut, untold, unkept, cut_unkept, IsAnswered, After, Reply, item_after, item_reply, after_items, replies, HasWords, IsWorded}
 use Rattle.cat_wire.specs.Connection.{Run, WritesReplies, WritesPart, Outcome, WireOut, Transcript}
 use Rattle.cat_wire.specs.declared.message_loop.ConnEnd.{ConnEnd}
 use Rattle.cat_wire.specs.declared.message_loop.ConnEnd.TheVariants.{Whole, ReadFault, WriteFault, Bound, NoMemory}
@@ -69,6 +69,7 @@ module _ {A B : Type 0} (answers : Answering A) (lacks : Lacking A) (Holds : A �
   acting a new m text (cut k) acts n t = (n, t)
   acting a new m text untold acts n t = absurd acts
   acting a new m text unkept acts n t = (n, t)
+  acting a new m text (cut_unkept k) acts n t = (n, t)
 
   answered : (a new : A) (m : Message) (text : List ℕ) → Holds a → answers a m new text → Stepped a (message m) new text
   answered a new m text holds h =

@@ -7,13 +7,15 @@ use Rattle.cat_wire.specs.Items.{Item, message, refusal}
 use Rattle.cat_wire.specs.Runs.{Answering, Lacking, memory_reply}
 
 -- A message acts; or it lacks memory and acts not; or what it does was cut for want of memory after so many events; or it acts, and
--- its reply lacks memory; or what it would change wasn't kept, and it acts not.
+-- its reply lacks memory; or what it would change wasn't kept, and it acts not; or what it does was cut after so many events, since what follows
+-- them wasn't kept.
 pub data Word : Type 0 where
   plain : Word
   memory : Word
   cut : ℕ → Word
   untold : Word
   unkept : Word
+  cut_unkept : ℕ → Word
 
 -- the machine answers a message with this word
 abbrev pub IsAnswered : Word → Type 0
@@ -22,6 +24,7 @@ IsAnswered memory = ⊥
 IsAnswered (cut n) = Unit {0}
 IsAnswered untold = ⊥
 IsAnswered unkept = Unit {0}
+IsAnswered (cut_unkept n) = Unit {0}
 
 -- the state after a message with its word
 abbrev pub After : Type 0 → Type 0
@@ -46,6 +49,7 @@ item_after after a memory (message m) = a
 item_after after a (cut n) (message m) = after a (cut n) m
 item_after after a untold (message m) = after a untold m
 item_after after a unkept (message m) = after a unkept m
+item_after after a (cut_unkept n) (message m) = after a (cut_unkept n) m
 item_after after a word (refusal rule) = a
 
 -- the reply to an item with its word
@@ -55,6 +59,7 @@ item_reply reply a memory (message m) = memory_reply m
 item_reply reply a (cut n) (message m) = reply a (cut n) m
 item_reply reply a untold (message m) = memory_reply m
 item_reply reply a unkept (message m) = reply a unkept m
+item_reply reply a (cut_unkept n) (message m) = reply a (cut_unkept n) m
 item_reply reply a word (refusal rule) = reply_bytes (errors.refusal rule)
 
 -- the state after the items, each with its word

@@ -1,7 +1,7 @@
 use Rattle.std.proofs.Common.{◌≡◌, map, drop}
 use Rattle.cat_tree.specs.Data.{items_of}
 use Rattle.cat_tree.specs.View.{data_of}
-use Rattle.cat_inputs.specs.Body.{with_front}
+use Rattle.cat_commands.specs.cat_inputs.specs.Body.{with_front}
 use Rattle.cat_changes.specs.Read.{changes_from}
 use Rattle.cat_changes.proofs.read.changes_from.Given as goal
 

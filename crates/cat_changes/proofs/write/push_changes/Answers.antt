@@ -1,5 +1,5 @@
 use Rattle.std.proofs.Common.{◌++◌, ap, ◌∙◌, false, map}
-use Rattle.cat_query.proofs.Texts.{after_ok, three_texts, kept_on, kept_more, rest_text}
+use Rattle.cat_commands.specs.cat_query.proofs.Texts.{after_ok, three_texts, kept_on, kept_more, rest_text}
 use Rattle.cat_changes.specs.Written.{change_data}
 use Rattle.cat_changes.proofs.Texts.{changes_text}
 use Rattle.cat_changes.proofs.write.push_changes.Goals as goal

@@ -1,6 +1,6 @@
 use Rattle.std.proofs.Common.{◌≡◌, ◌++◌, drop, false, map}
-use Rattle.cat_query.specs.Answers.{IsKept}
-use Rattle.cat_query.proofs.Texts.{rest_text}
+use Rattle.cat_commands.specs.cat_query.specs.Answers.{IsKept}
+use Rattle.cat_commands.specs.cat_query.proofs.Texts.{rest_text}
 use Rattle.cat_changes.specs.Written.{change_data}
 use Rattle.cat_changes.proofs.write.push_list.Given as goal
 

@@ -1,6 +1,6 @@
 use Rattle.std.proofs.Common.{◌++◌, ap, ◌∙◌}
 use Rattle.cat_tree.specs.View.{data_of}
-use Rattle.cat_query.proofs.Texts.{after_ok}
+use Rattle.cat_commands.specs.cat_query.proofs.Texts.{after_ok}
 use Rattle.cat_changes.proofs.Texts.{gone_text, set_text}
 use Rattle.cat_changes.proofs.write.push_parts.Goals as goal
 

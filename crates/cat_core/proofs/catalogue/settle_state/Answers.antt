@@ -1,9 +1,9 @@
-use Rattle.std.proofs.Common.{◌≡◌, ap, sym, subst, ◌∙◌}
+use Rattle.std.proofs.Common.{◌≡◌, ◌-◌, ◌^◌, arith, ap, sym, subst, ◌∙◌}
 use Rattle.cat_model.specs.declared.types.Progress.{Progress}
 use Rattle.cat_model.specs.Settle.{try_settle}
 use Rattle.cat_settle.specs.Part.{Came}
 use Rattle.cat_core.specs.Answer.{IsSettled}
-use Rattle.cat_core.proofs.Settles.{begun_few, settled_begun, settles}
+use Rattle.cat_core.proofs.Settles.{begun_within, few_events, settled_begun, settles}
 use Rattle.cat_core.proofs.catalogue.settle_state.Goals as goal
 
 pub returns-clause-settled : goal.returns-clause-settled
@@ -11,12 +11,12 @@ returns-clause-settled g c =
     let p = c.settled-came.new.p in
     let e : c.begun-p.result.state ≡ c.args.state.now = ap (λ (q : Progress). q.state) c.begun-p.ensures ∙ c.replace-taken.ensures.value in
     subst (λ r. IsSettled g.L.Layers.rules c.args.settings.now c.args.now c.args.state.now r p.state) (sym c.settle_reply-reply.ensures)
-    (settles g.L.Layers.rules c.args.settings.now c.args.now c.args.state.now c.requires.interval c.requires.steady.sound c.settled-came.result p (c.settled-came.ensures.goes.few (begun_few c.begun-p.result _ c.begun-p.ensures))
+    (settles g.L.Layers.rules c.args.settings.now c.args.now c.args.state.now c.requires.interval c.requires.steady.sound c.settled-came.result p (few_events (2 ^ 64 - 2) p (c.settled-came.ensures.within (begun_within (2 ^ 64 - 2) c.begun-p.result _ c.begun-p.ensures)) (omega arith))
     (subst (λ m. Came c.settled-came.result (λ limit. try_settle g.L.Layers.rules c.args.settings.now c.args.now limit m) p) e c.settled-came.ensures.came))
 
 pub returns-clause-begun : goal.returns-clause-begun
 returns-clause-begun g c =
     let p = c.settled-came.new.p in
     let e : c.begun-p.result.state ≡ c.args.state.now = ap (λ (q : Progress). q.state) c.begun-p.ensures ∙ c.replace-taken.ensures.value in
-    settled_begun g.L.Layers.rules c.args.settings.now c.args.now c.args.state.now c.settled-came.result p (c.settled-came.ensures.goes.few (begun_few c.begun-p.result _ c.begun-p.ensures))
+    settled_begun g.L.Layers.rules c.args.settings.now c.args.now c.args.state.now c.settled-came.result p (few_events (2 ^ 64 - 2) p (c.settled-came.ensures.within (begun_within (2 ^ 64 - 2) c.begun-p.result _ c.begun-p.ensures)) (omega arith))
     (subst (λ m. Came c.settled-came.result (λ limit. try_settle g.L.Layers.rules c.args.settings.now c.args.now limit m) p) e c.settled-came.ensures.came) c.requires.begun

@@ -4,7 +4,7 @@ use Rattle.cat_frame.specs.Linked.{AreLinked}
 use Rattle.cat_frame.specs.declared.change.Own.{Own}
 use Rattle.cat_model.specs.declared.types.Order.{Order}
 use Rattle.cat_model.specs.Catalogue.{frame, held}
-use Rattle.cat_holding.proofs.Changed.{sound_ready}
+use Rattle.cat_claims.specs.cat_holding.proofs.Changed.{sound_ready}
 use Rattle.cat_model.specs.Step.{finished_state}
 use Rattle.cat_events.proofs.Owned.{result_owned}
 use Rattle.cat_events.proofs.finish.finish_plan.Goals as goal

@@ -1,7 +1,7 @@
 use Rattle.std.proofs.Common.{List, sym, ap, subst, ◌∙◌}
 use Rattle.cat_table.specs.Table.{Text, get}
 use Rattle.cat_claims.specs.Change.{IsChangedAmong}
-use Rattle.cat_holding.proofs.Changed.{sound_ready}
+use Rattle.cat_claims.specs.cat_holding.proofs.Changed.{sound_ready}
 use Rattle.cat_model.specs.declared.types.Origin.TheVariants.{Provider}
 use Rattle.cat_frame.specs.Linked.{AreLinked}
 use Rattle.cat_model.specs.declared.types.ProviderInputs.{ProviderInputs}

@@ -1,19 +1,21 @@
-use Rattle.std.proofs.Common.{◌≡◌, refl, sym, ap, subst, ◌∙◌, inl, inr}
+use Rattle.std.proofs.Common.{◌≡◌, true≢false, refl, sym, ap, subst, ◌∙◌, inl, inr}
 use Rattle.std.proofs.Math.Logic.{∥∥₁_elim}
 use Rattle.std.specs.Coded.{Coded, Coded-set, coded_list, coded×, coded_ℕ}
-use Rattle.cat_core.specs.declared.ledger.Ledger.{Ledger}
-use Rattle.cat_desk.specs.Acts.{Acts}
-use Rattle.cat_desk.specs.Deed.{deed_of}
+use Rattle.cat_spare.specs.cat_core.specs.declared.ledger.Ledger.{Ledger}
+use Rattle.cat_spare.specs.cat_desk.specs.Acts.{Acts}
+use Rattle.cat_spare.specs.cat_desk.specs.Deed.{deed_of}
 use Rattle.cat_keeper.specs.declared.keeper.Committed.TheVariants.{Kept, Failed, NoMemory}
 use Rattle.cat_loop.specs.Word.{memory}
 use Rattle.cat_keeper.specs.contracts.table.Table.{the_row as table_row}
-use Rattle.cat_rows.specs.contracts.row.StoredRow.{the_row as stored_row}
-use Rattle.cat_tables.specs.Stored.{Stored, stored}
+use Rattle.cat_store.specs.cat_rows.specs.contracts.row.StoredRow.{the_row as stored_row}
+use Rattle.cat_store.specs.cat_tables.specs.Stored.{Stored, stored}
 use Rattle.cat_kept_desk.specs.Followed.{IsFollowed}
 use Rattle.cat_spare.specs.Spare.{IsSpare}
 use Rattle.cat_spare.proofs.Again.{acts_from}
-use Rattle.cat_kept_desk.proofs.Answered.{acts_never}
+use Rattle.cat_kept_desk.proofs.Answered.{acts_kept}
 use Rattle.cat_kept_desk.proofs.Deeds.{needs_some}
+use Rattle.cat_kept_desk.proofs.Lost.{lost_from}
+use Rattle.cat_kept_desk.specs.Deeds.{leaves_rows}
 use Rattle.cat_kept_desk.proofs.Followed.{followed}
 use Rattle.cat_kept_desk.proofs.Beyond.{command_reaches}
 use Rattle.cat_kept_desk.proofs.desk.follow.Goals as goal
@@ -49,23 +51,23 @@ pub returns-in-Kept-clause-spared : goal.returns-in-Kept-clause-spared
 returns-in-Kept-clause-spared g c = subst (λ (l : Ledger). IsSpare c.brought_up.result l.state) (sym c.brought_up.ensures.catalogue) c.brought_up.ensures.spare
 
 pub returns-in-Failed-clause-acts : goal.returns-in-Failed-clause-acts
-returns-in-Failed-clause-acts g c = inr (
-  record {
-    changes = c.requires.changes;
-    state = c.put_back.ensures.state ∙ c.in-Ok.ensures.saved;
-    settings = c.put_back.ensures.settings ∙ c.act-reply.ensures.settings;
-    answer = refl;
-  },
-  c.saturating_add.ensures,
-)
+returns-in-Failed-clause-acts g c =
+    let settings = c.put_back.ensures.settings ∙ c.act-reply.ensures.settings in
+    let state = c.put_back.ensures.state ∙ c.in-Ok.ensures.saved in
+    inr (lost_from g.L.Layers.rules c.args.now (deed_of c.args.command.now) c.args.catalogue.now c.put_back.new.self c.unkept.new.catalogue c.unkept.result settings state c.unkept.ensures.lost, c.saturating_add.ensures)
+
+pub unkept-requires-clause-changes : goal.unkept-requires-clause-changes
+unkept-requires-clause-changes g c = ap (leaves_rows (deed_of c.args.command.now)) (c.put_back.ensures.state ∙ c.in-Ok.ensures.saved) ∙ c.requires.changes
 
 pub returns-in-Failed-clause-followed : goal.returns-in-Failed-clause-followed
 returns-in-Failed-clause-followed g c =
     let settings = c.put_back.ensures.settings ∙ c.act-reply.ensures.settings in
     let state = c.put_back.ensures.state ∙ c.in-Ok.ensures.saved in
-    let same = ap (λ s. s.orphans) (sym settings) in
-    followed _ _ _ _ _ _ _ _ _ _ c.keep.ensures.orphans same c.keep.ensures.told
-    (λ rule rows. c.keep.ensures.same (λ k. (let no : Failed ≡ Kept = sym c.in-Failed.is ∙ k in cc)) ∙ (rows ∙ (λ i. stored (same i) (sym state i)))) c.requires.followed
+    let back = ap (λ s. s.orphans) (sym settings) in
+    let after = ap (λ s. s.orphans) (sym c.unkept.ensures.settings) in
+    followed _ _ _ _ _ _ _ _ _ _ c.keep.ensures.orphans (back ∙ after) c.keep.ensures.told
+    (λ rule rows. c.keep.ensures.same (λ k. (let no : Failed ≡ Kept = sym c.in-Failed.is ∙ k in cc))
+    ∙ (rows ∙ ((λ i. stored (back i) (sym state i)) ∙ (sym c.unkept.ensures.rows ∙ ap (λ o. stored o c.unkept.new.catalogue.state) after)))) c.requires.followed
 
 pub returns-in-NoMemory-clause-acts : goal.returns-in-NoMemory-clause-acts
 returns-in-NoMemory-clause-acts g c = inl (
@@ -89,4 +91,4 @@ returns-in-NoMemory-clause-followed g c =
     (λ rule rows. c.keep.ensures.same (λ k. (let no : NoMemory ≡ Kept = sym c.in-NoMemory.is ∙ k in cc)) ∙ (rows ∙ (λ i. stored (same i) (sym state i)))) c.requires.followed
 
 pub returns-in-Kept-clause-cause : goal.returns-in-Kept-clause-cause
-returns-in-Kept-clause-cause g c = λ is. acts_never g.L.Layers.rules c.args.now (deed_of c.args.command.now) c.args.catalogue.now c.act-reply.new.catalogue c.act-reply.result c.act-reply.ensures is
+returns-in-Kept-clause-cause g c = λ is. absurd (true≢false (sym is ∙ acts_kept g.L.Layers.rules c.args.now (deed_of c.args.command.now) c.args.catalogue.now c.act-reply.new.catalogue c.act-reply.result c.act-reply.ensures))

@@ -1,13 +1,13 @@
 use Rattle.std.proofs.Common.{◌≡◌, true, sym, ap, subst, ◌∙◌}
 use Rattle.std.specs.FinMap.Entries.{is_sorted}
 use Rattle.cat_table.specs.Table.{text_cmp}
-use Rattle.cat_core.specs.declared.ledger.Ledger.{Ledger}
-use Rattle.cat_desk.specs.Acts.{Acts}
-use Rattle.cat_desk.specs.Deed.{deed_of}
-use Rattle.cat_tables.specs.Stored.{stored}
+use Rattle.cat_spare.specs.cat_core.specs.declared.ledger.Ledger.{Ledger}
+use Rattle.cat_spare.specs.cat_desk.specs.Acts.{Acts}
+use Rattle.cat_spare.specs.cat_desk.specs.Deed.{deed_of}
+use Rattle.cat_store.specs.cat_tables.specs.Stored.{stored}
 use Rattle.cat_spare.specs.Spare.{IsSpare}
 use Rattle.cat_spare.proofs.Again.{acts_from}
-use Rattle.cat_kept_desk.proofs.Answered.{acts_never}
+use Rattle.cat_kept_desk.proofs.Answered.{acts_kept}
 use Rattle.cat_kept_desk.proofs.Deeds.{deed_still}
 use Rattle.cat_kept_desk.proofs.desk.pass.Goals as goal
 
@@ -27,7 +27,7 @@ returns-clause-rows g c =
     ∙ (ap (stored old.settings.orphans) acts.state ∙ deed_still g.L.Layers.rules old.settings old.settings.orphans c.args.now old.state (subst (λ m. is_sorted text_cmp m.records ≡ true) c.view-state.ensures.state c.view-state.ensures.records) acts.word (deed_of c.args.command.now) c.requires.leaves)
 
 pub returns-clause-never : goal.returns-clause-never
-returns-clause-never g c = λ is. acts_never g.L.Layers.rules c.args.now (deed_of c.args.command.now) c.args.catalogue.now c.act-reply.new.catalogue c.act-reply.result c.act-reply.ensures is
+returns-clause-never g c = acts_kept g.L.Layers.rules c.args.now (deed_of c.args.command.now) c.args.catalogue.now c.act-reply.new.catalogue c.act-reply.result c.act-reply.ensures
 
 pub returns-clause-spared : goal.returns-clause-spared
 returns-clause-spared g c = subst (λ (l : Ledger). IsSpare c.bring_up.new.spare l.state) (sym c.bring_up.ensures.catalogue) c.bring_up.ensures.spare

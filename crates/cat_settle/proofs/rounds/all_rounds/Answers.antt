@@ -23,5 +23,6 @@ rounds-preserved g c =
     record {
       have = round_done g.L.Layers.rules c.args.settings.now c.args.now c.args.p.now p c.rounds.invariant.have going c.one_round.new.p c.one_round.ensures.goes c.in-Ok-one_round.ensures.came;
       goes = goes_on g.L.Layers.rules c.args.p.now p c.one_round.new.p c.rounds.invariant.goes c.one_round.ensures.goes;
+      within = λ h. c.one_round.ensures.within (c.rounds.invariant.within h);
       steady = c.one_round.ensures.steady;
     }

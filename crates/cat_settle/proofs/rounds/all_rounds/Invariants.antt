@@ -1,3 +1,4 @@
+use Rattle.std.proofs.Common.{◌≤◌}
 use Rattle.cat_events.specs.Coming.{IsSteady}
 use Rattle.cat_settle.specs.Part.{Goes, HaveRounds}
 use Rattle.cat_settle.proofs.Moves.{left}
@@ -7,6 +8,7 @@ abbrev pub invariant-rounds : goal.invariant-rounds
 invariant-rounds g l = record {
   have : HaveRounds g.L.Layers.rules l.settings l.now l.initial.p l.p;
   goes : Goes g.L.Layers.rules l.initial.p l.p;
+  within : l.initial.p.events ≤ l.most → l.p.events ≤ l.most;
   steady : IsSteady g.L.Layers.rules l.links l.p.state;
 }
 

@@ -28,6 +28,7 @@ loop-reference-preserved g c =
       leads = leads_on g.L.Layers.rules (λ limit. try_stitches g.L.Layers.rules c.args.settings.now limit c.args.refs.now c.args.p.now) p c.mark_tried.new.p (λ limit x. try_stitch_with g.L.Layers.rules c.args.settings.now limit (mark_order g.L.Layers.rules x.state item) x) (λ limit x. try_stitches g.L.Layers.rules c.args.settings.now limit rest x) (stitches_stays g.L.Layers.rules c.args.settings.now rest) c.mark_tried.ensures.goes
           (subst (λ l. Leads g.L.Layers.rules (λ limit. try_stitches g.L.Layers.rules c.args.settings.now limit c.args.refs.now c.args.p.now) p (λ limit x. try_stitches g.L.Layers.rules c.args.settings.now limit l x)) e c.loop-reference.invariant.leads) c.in-Ok.ensures.came;
       goes = goes_on g.L.Layers.rules c.args.p.now p c.mark_tried.new.p c.loop-reference.invariant.goes c.mark_tried.ensures.goes;
+      within = λ h. c.mark_tried.ensures.within (c.loop-reference.invariant.within h);
       steady = c.mark_tried.ensures.steady;
     }
 

@@ -28,6 +28,7 @@ loop-reference-preserved g c =
       leads = leads_on g.L.Layers.rules (λ limit. try_turns g.L.Layers.rules c.args.settings.now c.args.now limit c.args.refs.now c.args.p.now) p c.turned.new.p (λ limit x. try_turn g.L.Layers.rules c.args.settings.now c.args.now limit item x) (λ limit x. try_turns g.L.Layers.rules c.args.settings.now c.args.now limit rest x) (turns_stays g.L.Layers.rules c.args.settings.now c.args.now rest) c.turned.ensures.goes
           (subst (λ l. Leads g.L.Layers.rules (λ limit. try_turns g.L.Layers.rules c.args.settings.now c.args.now limit c.args.refs.now c.args.p.now) p (λ limit x. try_turns g.L.Layers.rules c.args.settings.now c.args.now limit l x)) e c.loop-reference.invariant.leads) c.in-Ok.ensures.came;
       goes = goes_on g.L.Layers.rules c.args.p.now p c.turned.new.p c.loop-reference.invariant.goes c.turned.ensures.goes;
+      within = λ h. c.turned.ensures.within (c.loop-reference.invariant.within h);
       steady = c.turned.ensures.steady;
     }
 

@@ -2,7 +2,7 @@ use Rattle.std.proofs.Common.{refl, sym, ◌∙◌}
 use Rattle.cat_model.specs.Step.Event.{TakeAt}
 use Rattle.cat_events.specs.Stepped.{come_to}
 use Rattle.cat_settle.proofs.Called.{taken_steady}
-use Rattle.cat_settle.proofs.Parts.{event_done, event_goes, rests, stopped_done}
+use Rattle.cat_settle.proofs.Parts.{event_done, event_goes, event_within, rests, stopped_done}
 use Rattle.cat_settle.proofs.turn.take_tried.Goals as goal
 
 pub returns-then-is_some-clause-came : goal.returns-then-is_some-clause-came
@@ -18,4 +18,7 @@ pub returns-clause-steady : goal.returns-clause-steady
 returns-clause-steady g c = λ links h. taken_steady g.L.Layers.rules c.args.settings.now links c.args.reference.now c.args.now c.args.p.now c.taken.new.p c.taken.ensures h
 
 pub returns-clause-goes : goal.returns-clause-goes
-returns-clause-goes g c = event_goes g.L.Layers.rules c.args.settings.now (TakeAt c.args.reference.now c.args.now) c.args.p.now (come_to g.L.Layers.rules c.args.settings.now (TakeAt c.args.reference.now c.args.now) c.args.p.now.state) c.taken.new.p refl c.taken.ensures (sym c.is_some.ensures ∙ c.if-is_some.false) c.if-p-ge-MOST_EVENTS.false
+returns-clause-goes g c = event_goes g.L.Layers.rules c.args.settings.now (TakeAt c.args.reference.now c.args.now) c.args.p.now (come_to g.L.Layers.rules c.args.settings.now (TakeAt c.args.reference.now c.args.now) c.args.p.now.state) c.taken.new.p refl c.taken.ensures (sym c.is_some.ensures ∙ c.if-is_some.false)
+
+pub returns-clause-within : goal.returns-clause-within
+returns-clause-within g c = λ h. event_within g.L.Layers.rules c.args.settings.now (TakeAt c.args.reference.now c.args.now) c.args.p.now (come_to g.L.Layers.rules c.args.settings.now (TakeAt c.args.reference.now c.args.now) c.args.p.now.state) c.taken.new.p refl c.taken.ensures (sym c.is_some.ensures ∙ c.if-is_some.false) c.args.most c.if-p-most.false

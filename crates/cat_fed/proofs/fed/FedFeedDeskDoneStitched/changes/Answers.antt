@@ -1,5 +1,5 @@
 use Rattle.std.proofs.Common.{◌∙◌, ap, refl, subst}
-use Rattle.cat_core.specs.declared.ledger.Ledger.{Ledger}
+use Rattle.cat_desk.specs.cat_core.specs.declared.ledger.Ledger.{Ledger}
 use Rattle.cat_feed.specs.Changes.{Documents}
 use Rattle.cat_fed.specs.Told.{Tells}
 use Rattle.cat_fed.proofs.fed.FedFeedDeskDoneStitched.changes.Goals as goal

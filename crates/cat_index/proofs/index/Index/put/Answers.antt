@@ -1,5 +1,5 @@
 use Rattle.std.proofs.Common.{Some, refl}
-use Rattle.cat_table.specs.Table.{put, text_cmp}
+use Rattle.cat_types.specs.cat_table.specs.Table.{put, text_cmp}
 use Rattle.cat_index.proofs.Waiting.{agree_noted, same_index}
 use Rattle.cat_index.proofs.index.Index.put.Goals as goal
 

@@ -1,6 +1,6 @@
 use Rattle.std.proofs.Common.{None, refl}
-use Rattle.cat_table.specs.Rows.{without}
-use Rattle.cat_table.specs.Table.{put, text_cmp}
+use Rattle.cat_types.specs.cat_table.specs.Rows.{without}
+use Rattle.cat_types.specs.cat_table.specs.Table.{put, text_cmp}
 use Rattle.cat_index.proofs.Waiting.{agree_noted, same_index}
 use Rattle.cat_index.proofs.index.Index.remove.Goals as goal
 

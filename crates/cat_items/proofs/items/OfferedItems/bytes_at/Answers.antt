@@ -1,8 +1,8 @@
 use Rattle.std.proofs.Common.{◌^◌, min, length, sym, ap, ◌∙◌}
-use Rattle.cat_tree.specs.Data.{Data}
-use Rattle.cat_tree.specs.Text.{text_of}
-use Rattle.cat_table.proofs.Placed.{to_T}
-use Rattle.cat_table.specs.Table.{Map, get}
+use Rattle.cat_types.specs.cat_tree.specs.Data.{Data}
+use Rattle.cat_types.specs.cat_tree.specs.Text.{text_of}
+use Rattle.cat_types.specs.cat_table.proofs.Placed.{to_T}
+use Rattle.cat_types.specs.cat_table.specs.Table.{Map, get}
 use Rattle.cat_types.specs.declared.input.Offered.{Offered}
 use Rattle.cat_items.specs.Bytes.{bytes_of}
 use Rattle.cat_items.proofs.Sums.{found_bytes}

@@ -1,8 +1,8 @@
 use Rattle.std.proofs.Common.{◌-◌, ◌≤◌, sym, ap, subst, ◌∙◌}
 use Rattle.std.specs.List.{sum_by}
-use Rattle.cat_table.specs.Rows.{without}
-use Rattle.cat_table.proofs.Placed.{to_T}
-use Rattle.cat_table.specs.Table.{Map, get, text_cmp}
+use Rattle.cat_types.specs.cat_table.specs.Rows.{without}
+use Rattle.cat_types.specs.cat_table.proofs.Placed.{to_T}
+use Rattle.cat_types.specs.cat_table.specs.Table.{Map, get, text_cmp}
 use Rattle.cat_types.specs.declared.input.Offered.{Offered}
 use Rattle.cat_items.specs.Bytes.{bytes_of, item_bytes}
 use Rattle.cat_items.proofs.Sums.{one_less}

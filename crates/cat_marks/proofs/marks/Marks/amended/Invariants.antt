@@ -1,6 +1,6 @@
 use Rattle.std.proofs.Common.{◌≡◌, drop}
 use Rattle.std.specs.Vec.Iter.{into_iter_items}
-use Rattle.cat_table.specs.Table.{puts, text_cmp}
+use Rattle.cat_types.specs.cat_table.specs.Table.{puts, text_cmp}
 use Rattle.cat_types.specs.Amended.{amended, without_all}
 use Rattle.cat_marks.proofs.marks.Marks.amended.Given as goal
 

@@ -1,4 +1,4 @@
-use Rattle.cat_table.specs.Table.{get, put, text_cmp}
+use Rattle.cat_types.specs.cat_table.specs.Table.{get, put, text_cmp}
 use Rattle.cat_marks.specs.Marks.{tickets_with}
 use Rattle.cat_marks.proofs.Indexed.{same_indexed, with_indexed}
 use Rattle.cat_marks.proofs.marks.Marks.put.Goals as goal

@@ -1,5 +1,5 @@
-use Rattle.cat_table.specs.Rows.{without}
-use Rattle.cat_table.specs.Table.{get, text_cmp}
+use Rattle.cat_types.specs.cat_table.specs.Rows.{without}
+use Rattle.cat_types.specs.cat_table.specs.Table.{get, text_cmp}
 use Rattle.cat_marks.specs.Marks.{tickets_without}
 use Rattle.cat_marks.proofs.Indexed.{same_indexed, without_indexed}
 use Rattle.cat_marks.proofs.marks.Marks.remove.Goals as goal
