@@ -52,6 +52,16 @@ def deltas(session, lines, serial):
         assert session.say(f'delta git {body}') == b'ok\n'
 
 
+def settles(session, lines, serial):
+    seconds = 0
+    for k in range(lines):
+        deltas(session, 1, serial + k)
+        start = time.perf_counter()
+        assert session.say('settle').startswith(b'settled')
+        seconds += time.perf_counter() - start
+    return seconds
+
+
 def plain_statements(folder, lines):
     it = sqlite3.connect(os.path.join(folder, 'plain.db'), isolation_level=None)
     it.execute('PRAGMA journal_mode=WAL')
@@ -80,6 +90,7 @@ def measured(words, name, count, lines):
     told(f'{name}: settle of {count}', timed(lambda: session.say('settle')), 1)
     told(f'{name}: a text of the shelf, {count} Components there', timed(lambda: puts(session, lines, 'b')), lines)
     told(f'{name}: a Component has another owner, of {count}', timed(lambda: deltas(session, lines, 2)), lines)
+    told(f'{name}: the settle after such a change, of {count}', settles(session, lines, 2 + lines), lines)
     session.end()
     if words:
         told(f'{name}: opening it again', timed(lambda: Session(words).end()), 1)

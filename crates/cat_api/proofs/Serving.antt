@@ -3,7 +3,7 @@ use Rattle.std.proofs.Common.{◌≡◌, ◌≢◌, ◌⊎◌, ℕ, List, refl, 
 use Rattle.std.specs.Prelude.{if◌then◌else◌, Option}
 use Rattle.std.specs.declared.result.Result.{Result}
 use Rattle.std.specs.declared.result.Result.TheVariants.{Ok, Err}
-use Rattle.cat_fed.specs.cat_core.specs.declared.ledger.Ledger.{Ledger}
+use Rattle.cat_fed.specs.cat_desk.specs.cat_core.specs.declared.ledger.Ledger.{Ledger}
 use Rattle.cat_fed.specs.cat_desk.specs.Acts.{Acts, ActsOnce, after_deed, deed_reply}
 use Rattle.cat_fed.specs.cat_desk.specs.Asks.{AsksOnce, IsAnswer}
 use Rattle.cat_fed.specs.cat_desk.specs.Deed.{Deed}

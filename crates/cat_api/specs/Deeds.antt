@@ -1,7 +1,7 @@
 -- How what a desk says becomes an answer.
 use Rattle.std.specs.Prelude.{ℕ, Bool, true, false, List, Result, Ok, Err}
-use Rattle.cat_fed.specs.cat_core.specs.declared.fault.CoreFault.{CoreFault}
-use Rattle.cat_fed.specs.cat_core.specs.declared.fault.CoreFault.TheVariants as core
+use Rattle.cat_fed.specs.cat_desk.specs.cat_core.specs.declared.fault.CoreFault.{CoreFault}
+use Rattle.cat_fed.specs.cat_desk.specs.cat_core.specs.declared.fault.CoreFault.TheVariants as core
 use Rattle.cat_fed.specs.cat_desk.specs.declared.command.Asked.{Asked}
 use Rattle.cat_fed.specs.cat_desk.specs.declared.command.Asked.TheVariants as asked
 use Rattle.cat_fed.specs.cat_desk.specs.declared.command.Reply.{Reply}

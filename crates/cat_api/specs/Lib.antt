@@ -3,7 +3,5 @@ pub mod Operations
 pub mod Wire
 pub mod Answering
 pub mod Room
-pub use Rattle.cat_fed.specs.cat_core
-pub use Rattle.cat_fed.specs.cat_desk
 pub use Rattle.cat_fed
 pub use Rattle.cat_requests

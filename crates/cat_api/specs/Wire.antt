@@ -1,6 +1,6 @@
 -- What a message does to the catalogue and its feed at the moment 0, and the bytes of the reply.
 use Rattle.std.specs.Prelude.{Result, Ok, Err}
-use Rattle.cat_fed.specs.cat_core.specs.declared.ledger.Ledger.{Ledger}
+use Rattle.cat_fed.specs.cat_desk.specs.cat_core.specs.declared.ledger.Ledger.{Ledger}
 use Rattle.cat_fed.specs.cat_desk.specs.Acts.{after_deed, deed_reply}
 use Rattle.cat_feed.specs.Feed.{asked, feed_after}
 use Rattle.cat_feed.specs.declared.ledger.Ledger.{Ledger as Feed}

@@ -18,5 +18,4 @@ pub mod task;
 
 // What this crate stands on and hands on.
 pub use cat_fed;
-pub use cat_fed::{cat_core, cat_desk};
 pub use cat_requests;

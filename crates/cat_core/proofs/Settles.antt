@@ -1,5 +1,5 @@
 -- What a settle answers.
-use Rattle.std.proofs.Common.{arith, ◌≡◌, ℕ, ◌-◌, ◌^◌, ◌<◌, ◌≤◌, refl, sym, ap, ◌∙◌, subst}
+use Rattle.std.proofs.Common.{arith, ◌≡◌, ℕ, ◌-◌, ◌^◌, ◌<◌, ◌≤◌, refl, sym, ap, ◌∙◌, subst, le_refl}
 use Rattle.std.specs.declared.option.Option.{Option}
 use Rattle.std.specs.declared.option.Option.TheVariants.{None, Some}
 use Rattle.std.specs.declared.result.Result.{Result}
@@ -13,11 +13,12 @@ use Rattle.cat_model.specs.declared.types.Stop.{Stop}
 use Rattle.cat_model.specs.declared.types.Stop.TheVariants.{Refused as StopRefused, Limit}
 use Rattle.cat_model.specs.Catalogue.{Rules}
 use Rattle.cat_model.specs.Reply.{counts}
-use Rattle.cat_model.specs.Settle.{not_begun, try_settle}
+use Rattle.cat_model.specs.Settle.{not_begun, try_rounds, try_settle, width}
 use Rattle.cat_model.specs.Sound.{AreBegun, AreSmall, Quiet, Sound}
-use Rattle.cat_settle.specs.cat_laws.proofs.Stands.{settle_keeps}
-use Rattle.cat_settle.specs.cat_laws.proofs.Tried.{unstopped_quiet}
+use Rattle.cat_settle.specs.cat_events.specs.cat_frame.specs.cat_laws.proofs.Stands.{settle_keeps}
+use Rattle.cat_settle.specs.cat_events.specs.cat_frame.specs.cat_laws.proofs.Tried.{unstopped_quiet}
 use Rattle.cat_settle.specs.Part.{Came, IsCut, IsDone}
+use Rattle.cat_settle.proofs.Stays.{marks_stays, rounds_stays}
 use Rattle.cat_core.specs.Answer.{IsCause, IsSettled, IsWhole, core_fault, settle_answer, stop_answer}
 
 cause_is : (fault : Fault) (stop : Option Stop) → stop ≡ Some (StopRefused fault) → IsCause (core_fault fault) stop
@@ -80,3 +81,16 @@ begun_within most p m e = let z : p.events ≡ 0 = ap (λ (q : Progress). q.even
 -- and so has what keeps to a limit below the greatest number
 pub few_events : (most : ℕ) (p : Progress) → p.events ≤ most → most < 2 ^ 64 - 1 → p.events < 2 ^ 64 - 1
 few_events most p within few = omega arith
+
+module _ (rules : Rules) (s : Settings) (now : ℕ) (m : State) where
+  -- a settle that may have no event leaves its state
+  no_events : (try_settle rules s now (Some 0) m).state ≡ m
+  unfolding try_settle
+  no_events =
+      let k = width rules m in
+      let p = try_rounds rules s now (Some 0) k (not_begun m) in
+      (marks_stays rules s).state 0 p (omega arith) ∙ (rounds_stays rules s now k).state 0 (not_begun m) (le_refl _)
+
+  -- so one of which no event stands has left it
+  pub none_stand : (events : ℕ) (n : State) → events ≡ 0 → n ≡ (try_settle rules s now (Some events) m).state → n ≡ m
+  none_stand events n none is = is ∙ (ap (λ k. (try_settle rules s now (Some k) m).state) none ∙ no_events)

@@ -3,7 +3,5 @@ pub mod Kept
 pub mod Least
 pub mod Numbered
 pub mod Waits
-pub use Rattle.cat_settle.specs.cat_events
-pub use Rattle.cat_settle.specs.cat_hold
-pub use Rattle.cat_settle.specs.cat_laws
 pub use Rattle.cat_search
+pub use Rattle.cat_settle

@@ -11,6 +11,7 @@ ghost use Rattle.cat_model.specs.Settle.{not_begun, try_settle};
 ghost use Rattle.cat_model.specs.Sound.{AreBegun, AreSmall, Quiet, Sound, its_number};
 ghost use Rattle.cat_settle.specs.cat_events.specs.Coming.{HasCome, IsSteady};
 ghost use Rattle.cat_settle.specs.cat_events.specs.Stepped.{come_to, AreMoments};
+ghost use Rattle.cat_settle.specs.cat_reach.specs.Gathered.{Gathers, IsWithin};
 ghost use Rattle.cat_core.specs.Answer.{IsSettled, settle_answer};
 ghost use Rattle.cat_model.specs.Step.{ref_at, refusal, source_at, start, step};
 ghost use Rattle.cat_model.specs.Step.Event.{Finish, Forget, ForgetNumber, Mutate, PutStitch, Refresh, ShelfDrop, ShelfPut, Take};
@@ -25,6 +26,8 @@ use crate::questions::{
     counts_of, is_quiet, issues_of, number_of, rests, stitch_after, stitch_reply,
 };
 use crate::waiting::waiting_at;
+use cat_hold::hold::row_of;
+use cat_hold::layers::Layers;
 use cat_links::links::Links;
 use cat_marks::marks::Marks;
 use cat_model::records::Records;
@@ -42,8 +45,6 @@ use cat_settle::cat_events::given::{given_by, serial_of};
 use cat_settle::cat_events::lease::refresh;
 use cat_settle::cat_events::mutation::{last_serial, mutate};
 use cat_settle::cat_events::stitch::put_stitch;
-use cat_settle::cat_hold::hold::row_of;
-use cat_settle::cat_hold::layers::Layers;
 use cat_settle::order::MOST_EVENTS;
 use cat_settle::settle::settled;
 use cat_table::listing::{Copied, Listing};
@@ -205,7 +206,7 @@ fn settle_reply(came: Result<(), AllocError>, p: &Progress) -> Result<Counts, Cu
     }
 }
 
-// Settles a state. It is taken out for as long as it is settled.
+// Settles a state, and gathers what its events reached, if this is gathered. It is taken out for as long as it is settled.
 fn settle_state<L: Layers>(
     alloc: Global,
     layers: &L,
@@ -213,6 +214,7 @@ fn settle_state<L: Layers>(
     now: u64,
     state: &mut State,
     links: &mut Links,
+    reached: &mut Option<Listing<Ref>>,
 ) -> Result<Counts, Cut>
     requires steady { IsSteady L.rules links.old state.old }
     requires begun { AreBegun state.old }
@@ -221,10 +223,20 @@ fn settle_state<L: Layers>(
     ensures settled { IsSettled L.rules settings.now now state.old result state.new }
     ensures steady { IsSteady L.rules links.new state.new }
     ensures begun { AreBegun state.new }
+    ensures gathers { Gathers reached.old state.old reached.new state.new }
 {
     let taken = mem::replace(state, empty_state(alloc));
     let mut p = begun(taken);
-    let came = settled(alloc, layers, settings, MOST_EVENTS, now, &mut p, links);
+    let came = settled(
+        alloc,
+        layers,
+        settings,
+        MOST_EVENTS,
+        now,
+        &mut p,
+        links,
+        reached,
+    );
     let reply = settle_reply(came, &p);
     *state = p.state;
     reply
@@ -248,12 +260,23 @@ fn settle_begun<L: Layers>(
     ensures most { result ≤ most }
     ensures state { state.new ≡ (try_settle L.rules settings.now now (Some result) state.old).state }
     ensures events { (try_settle L.rules settings.now now (Some result) state.old).events ≡ result }
+    ensures none { result ≡ 0 → state.new ≡ state.old }
     ensures steady { IsSteady L.rules links.new state.new }
     ensures begun { AreBegun state.new }
 {
     let taken = mem::replace(state, empty_state(alloc));
     let mut p = begun(taken);
-    let _came = settled(alloc, layers, settings, most, now, &mut p, links);
+    let mut reached = None;
+    let _came = settled(
+        alloc,
+        layers,
+        settings,
+        most,
+        now,
+        &mut p,
+        links,
+        &mut reached,
+    );
     let events = p.events;
     *state = p.state;
     events
@@ -437,6 +460,7 @@ impl<L: Layers> Catalogue<L> {
         ensures ended { IfOk result (λ x. (try_settle L.rules self.old.settings now None self.old.state).stop ≡ None) }
         ensures cut { IfErr result (λ x. IsCutSettle L.rules self.old.settings now self.old.state self.new.state x) }
     {
+        let mut reached = None;
         settle_state(
             alloc,
             &self.layers,
@@ -444,7 +468,37 @@ impl<L: Layers> Catalogue<L> {
             now,
             &mut self.ledger.state,
             &mut self.links,
+            &mut reached,
         )
+    }
+
+    /// Settles as `settle` does, and gives beside its answer the references that its events reached: beyond them the state before and the one after
+    /// are the same in all that a store keeps but the counters. None where memory lacked for them, or where they are more than rows that hold one.
+    pub fn settle_reaching(
+        &mut self,
+        alloc: Global,
+        now: u64,
+    ) -> (Result<Counts, Cut>, Option<Listing<Ref>>)
+        requires { now < 2 ^ 53 }
+        ensures settings { self.new.settings ≡ self.old.settings }
+        ensures state { IfOk result.0 (λ x. self.new.state ≡ (try_settle L.rules self.old.settings now None self.old.state).state) }
+        ensures counts { IfOk result.0 (λ x. x ≡ counts (try_settle L.rules self.old.settings now None self.old.state)) }
+        ensures quiet { IfOk result.0 (λ x. Quiet self.new.state now) }
+        ensures ended { IfOk result.0 (λ x. (try_settle L.rules self.old.settings now None self.old.state).stop ≡ None) }
+        ensures cut { IfErr result.0 (λ x. IsCutSettle L.rules self.old.settings now self.old.state self.new.state x) }
+        ensures reaches { IsWithin result.1 self.old.state self.new.state }
+    {
+        let mut reached = Some(Listing::new(alloc));
+        let reply = settle_state(
+            alloc,
+            &self.layers,
+            &self.ledger.settings,
+            now,
+            &mut self.ledger.state,
+            &mut self.links,
+            &mut reached,
+        );
+        (reply, reached)
     }
 
     /// Does the first events of a settle, `most` of them at most, and gives how many stand: fewer where there are no more, where the next is
@@ -456,6 +510,7 @@ impl<L: Layers> Catalogue<L> {
         ensures settings { self.new.settings ≡ self.old.settings }
         ensures state { self.new.state ≡ (try_settle L.rules self.old.settings now (Some result) self.old.state).state }
         ensures events { (try_settle L.rules self.old.settings now (Some result) self.old.state).events ≡ result }
+        ensures none { result ≡ 0 → self.new.state ≡ self.old.state }
     {
         settle_begun(
             alloc,

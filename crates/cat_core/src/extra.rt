@@ -7,11 +7,11 @@ ghost use Rattle.cat_settle.specs.cat_events.specs.Coming.{HasCome, IsSteady};
 ghost use Rattle.cat_settle.specs.cat_events.specs.Stepped.{come_to};
 
 use crate::known::with_number;
+use cat_hold::layers::Layers;
 use cat_links::links::Links;
 use cat_model::types::{Fault, Settings, State};
 use cat_ref::reference::Ref;
 use cat_settle::cat_events::change::forget;
-use cat_settle::cat_hold::layers::Layers;
 use cat_table::listing::Copied;
 use std::alloc::{AllocError, Global};
 

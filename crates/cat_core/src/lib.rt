@@ -17,4 +17,4 @@ pub mod waiting;
 
 // What this crate stands on and hands on.
 pub use cat_search;
-pub use cat_settle::{cat_events, cat_hold, cat_laws};
+pub use cat_settle;

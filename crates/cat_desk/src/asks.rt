@@ -6,9 +6,9 @@ ghost use Rattle.cat_model.specs.Reply.{is_quiet};
 ghost use Rattle.cat_replies.specs.Asks.{AskFault, ask_text, document_numbered, text_or};
 
 use crate::command::Asked;
-use cat_core::cat_hold::layers::Layers;
 use cat_core::cat_search::index::Index;
 use cat_core::catalogue::Catalogue;
+use cat_hold::layers::Layers;
 use cat_ref::reference::Ref;
 use cat_replies::cat_query::answers::{push_facets, push_list, push_many, push_page};
 use cat_replies::cat_query::ask::Ask;

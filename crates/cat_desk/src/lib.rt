@@ -14,5 +14,4 @@ pub mod timed;
 
 // What this crate stands on and hands on.
 pub use cat_core;
-pub use cat_core::cat_hold;
 pub use cat_replies::cat_query;

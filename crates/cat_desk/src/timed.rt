@@ -1,21 +1,24 @@
 //! A catalogue with a clock.
 ghost use Rattle.std.specs.Prelude.{◌≡◌, ◌≢◌, ◌<◌, ◌≤◌, ◌-◌, ◌++◌, ◌^◌, List, ℕ};
 ghost use Rattle.std.specs.declared.option.Option.TheVariants.{Some};
+ghost use Rattle.cat_core.specs.cat_settle.specs.cat_reach.specs.Gathered.{IsWithin};
 ghost use Rattle.cat_desk.specs.Acts.{Acts, ActsOnce, reply_as, settled_as};
 ghost use Rattle.cat_desk.specs.Asks.{AsksOnce};
-ghost use Rattle.cat_desk.specs.Deed.{deed_of};
+ghost use Rattle.cat_desk.specs.Deed.{Deed, deed_of};
 ghost use Rattle.cat_desk.specs.declared.command.Reply.TheVariants as replies;
 ghost use Rattle.cat_model.specs.Settle.{try_settle};
 
 use crate::asks::{prepare, write_ask};
 use crate::command::{Asked, Command, Reply};
 use crate::desk::Desk;
-use cat_core::cat_hold::layers::Layers;
 use cat_core::catalogue::{Catalogue, Done, Saved, Stitched};
 use cat_core::fault::{CoreFault, Cut};
+use cat_hold::layers::Layers;
 use cat_io::{Clock, FixedClock};
 use cat_model::types::{Acted, Counts, Finished, Order, Placed, StitchOrder};
+use cat_ref::reference::Ref;
 use cat_replies::cat_query::ask::Ask;
+use cat_table::listing::Listing;
 use std::alloc::Global;
 
 /// A catalogue with a clock, which is read once for each command and each question.
@@ -63,6 +66,17 @@ impl<L: Layers, C: Clock> Timed<L, C> {
         let reply = act(alloc, &mut self.catalogue, command, now);
         (now, reply)
     }
+
+    /// Settles the catalogue, and answers as the command does. Beside the answer it gives the references that the settle's events reached
+    /// (`Catalogue::settle_reaching`).
+    pub fn settle_reaching(&mut self, alloc: Global) -> (Reply, Option<Listing<Ref>>)
+        ensures acts { ActsOnce L.rules (C.moment self.new.clock) (C.readings self.old.clock) (C.readings self.new.clock) Deed.Settle self.old.catalogue self.new.catalogue result.0 }
+        ensures ticks { C.ticks self.old.clock self.new.clock }
+        ensures reaches { IsWithin result.1 self.old.catalogue.state self.new.catalogue.state }
+    {
+        let now = self.clock.now();
+        settle_reaching(alloc, &mut self.catalogue, now)
+    }
 }
 
 impl<L: Layers, C: Clock> Timed<L, C> {
@@ -90,6 +104,7 @@ impl<L: Layers> Timed<L, FixedClock> {
         ensures most { result ≤ most }
         ensures state { self.new.catalogue.state ≡ (try_settle L.rules self.old.catalogue.settings self.old.clock.moment (Some result) self.old.catalogue.state).state }
         ensures events { (try_settle L.rules self.old.catalogue.settings self.old.clock.moment (Some result) self.old.catalogue.state).events ≡ result }
+        ensures none { result ≡ 0 → self.new.catalogue.state ≡ self.old.catalogue.state }
         ensures settings { self.new.catalogue.settings ≡ self.old.catalogue.settings }
         ensures clock { self.new.clock ≡ self.old.clock }
     {
@@ -158,6 +173,21 @@ pub fn act<L: Layers>(
         Command::PutStitch(stitched) => placed(catalogue.put_stitch(alloc, stitched)),
         Command::Settle => settled(catalogue.settle(alloc, now)),
     }
+}
+
+/// Settles a catalogue at this moment, and answers as the command does. Beside the answer it gives the references that the settle's events reached
+/// (`Catalogue::settle_reaching`).
+pub fn settle_reaching<L: Layers>(
+    alloc: Global,
+    catalogue: &mut Catalogue<L>,
+    now: u64,
+) -> (Reply, Option<Listing<Ref>>)
+    requires { now < 2 ^ 53 }
+    ensures acts { Acts L.rules now Deed.Settle catalogue.old catalogue.new result.0 }
+    ensures reaches { IsWithin result.1 catalogue.old.state catalogue.new.state }
+{
+    let (came, reached) = catalogue.settle_reaching(alloc, now);
+    (settled(came), reached)
 }
 
 fn mutated(came: Result<Acted, CoreFault>) -> Reply

@@ -5,5 +5,3 @@ pub mod Stepped
 pub mod Coming
 pub mod Again
 pub use Rattle.cat_frame
-pub use Rattle.cat_frame.specs.cat_hold
-pub use Rattle.cat_frame.specs.cat_laws

@@ -26,4 +26,3 @@ pub mod stitch;
 
 // What this crate stands on and hands on.
 pub use cat_frame;
-pub use cat_frame::{cat_hold, cat_laws};

@@ -1,4 +1,3 @@
 pub mod Told
 pub use Rattle.cat_changes
-pub use Rattle.cat_desk.specs.cat_core
 pub use Rattle.cat_desk

@@ -12,4 +12,3 @@ pub mod fed;
 // What this crate stands on and hands on.
 pub use cat_changes;
 pub use cat_desk;
-pub use cat_desk::cat_core;

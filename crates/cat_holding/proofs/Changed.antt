@@ -8,8 +8,8 @@ use Rattle.std.specs.Cmp.{nat_cmp_total}
 use Rattle.std.specs.FinMap.{nat_cmp-IsAntisymmetric}
 use Rattle.std.specs.FinMap.Entries.{is_sorted, is_sorted-put}
 use Rattle.cat_table.specs.Table.{same_text, keys, get, put, over}
-use Rattle.cat_laws.specs.cat_types.specs.declared.input.Offered.{Offered}
-use Rattle.cat_laws.specs.cat_types.specs.declared.work.Output.{Output}
+use Rattle.cat_types.specs.declared.input.Offered.{Offered}
+use Rattle.cat_types.specs.declared.work.Output.{Output}
 use Rattle.cat_laws.specs.cat_model.specs.Catalogue.{Ref, Rows, Rules, row_at, may_offer, rehold}
 use Rattle.cat_laws.specs.cat_model.specs.declared.types.Numbered.{Numbered}
 use Rattle.cat_laws.specs.cat_model.specs.declared.types.Origin.{Origin}

@@ -14,8 +14,8 @@ ghost use Rattle.cat_laws.specs.cat_model.specs.declared.types.Row.{Row};
 ghost use Rattle.cat_laws.specs.cat_model.specs.declared.types.State.{State};
 ghost use Rattle.cat_table.specs.Table.{Text, get, keys, same_text};
 ghost use Rattle.std.specs.List.{list_any};
-ghost use Rattle.cat_laws.specs.cat_types.specs.declared.input.Offered.{Offered};
-ghost use Rattle.cat_laws.specs.cat_types.specs.declared.work.Output.{Output};
+ghost use Rattle.cat_types.specs.declared.input.Offered.{Offered};
+ghost use Rattle.cat_types.specs.declared.work.Output.{Output};
 ghost use Rattle.cat_holding.specs.Mend.{AreOpen, IsReady, IsReplaced, cut_off, gone, left_by, mended};
 
 /// Where the holders were right before the rows of an origin were replaced, mending what that cuts off gives the holders

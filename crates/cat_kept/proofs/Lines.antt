@@ -1,5 +1,6 @@
 -- What a line does to a session that is kept.
-use Rattle.std.proofs.Common.{◌≡◌, ◌≤◌, ◌++◌, [], ◌⊎◌, ℕ, Bool, true, false, not, ◌&&◌, true≢false, if◌then◌else◌, inl, inr, List, refl, sym, ap, subst, ◌∙◌, IfOk, OnErr}
+use Rattle.std.proofs.Common.{◌≡◌, ◌<◌, ◌≤◌, ◌⊎◌, ℕ, Bool, true, false, not, ◌&&◌, true≢false, if◌then◌else◌, inl, inr, List, refl, sym, ap, subst, ◌∙◌, arith, IfOk, OnErr}
+use Rattle.std.proofs.Math.Nat.{eq-or-lt_of_le}
 use Rattle.std.specs.declared.option.Option.{Option}
 use Rattle.std.specs.declared.option.Option.TheVariants.{None, Some}
 use Rattle.std.specs.declared.result.Result.{Result}
@@ -14,6 +15,7 @@ use Rattle.cat_commands.specs.declared.line.Line.TheVariants as asks
 use Rattle.cat_loop.specs.Word.{Word, plain, memory, cut, unkept, cut_unkept, AnswersLine, IsActing}
 use Rattle.cat_model.specs.Catalogue.{Rules}
 use Rattle.cat_model.specs.Reply.{next_stitch}
+use Rattle.cat_model.specs.Settle.{try_settle}
 use Rattle.cat_model.specs.declared.types.Order.{Order}
 use Rattle.cat_model.specs.declared.types.OrphanRule.{OrphanRule}
 use Rattle.cat_model.specs.declared.types.Settings.{Settings}
@@ -24,7 +26,7 @@ use Rattle.cat_session.specs.Replies.{IsLineRefusal}
 use Rattle.cat_commands.specs.declared.fault.LineFault.TheVariants as faults
 use Rattle.cat_kept_desk.specs.cat_store.proofs.Begun.{first_still}
 use Rattle.cat_kept_desk.specs.cat_store.proofs.Unstored.{put_stitch_still, refresh_still, take_still}
-use Rattle.cat_tables.specs.Stored.{stored}
+use Rattle.cat_tables.specs.Stored.{Stored, stored, texts_of}
 use Rattle.cat_transcript.specs.Program.{program_settings, ruled_after, ruled_reply}
 use Rattle.cat_transcript.specs.Session.{after_finish, after_place, after_reading, after_result, line_fault, order_numbered, reply_to, reply_to_result, session_after, session_reply, with_stitch}
 use Rattle.cat_transcript.specs.declared.state.RuledSession.{RuledSession}
@@ -33,13 +35,32 @@ use Rattle.cat_session.specs.cat_replies.specs.Events.{cut_by_keeper}
 use Rattle.cat_kept.specs.Carried.{CarriesKept, IsCut, IsRefused}
 use Rattle.cat_kept.specs.Kept.{changes, is_settle, is_single, kept_after, kept_reply, may_be_cut, may_be_refused, one_refused, refused_keeper, settle_events}
 use Rattle.cat_kept.specs.declared.state.KeptState.{KeptState}
-use Rattle.cat_kept_desk.specs.Followed.{one_more}
+use Rattle.cat_kept_desk.specs.Followed.{IsFollowed, one_more}
+use Rattle.cat_keeper.specs.Answers.{Are}
+use Rattle.cat_keeper.specs.Store.{Rows}
 
--- ---- a settle of which just the first events were kept
+-- ---- a settle that was cut behind its first event
 
--- the reply has the number of these events
-pub cut_text : (rules : Rules) (old : RuledSession) (n : ℕ) (before after : List ℕ) → settle_events rules n old ≡ n → before ≡ [] → after ≡ before ++ cut_by_keeper n → after ≡ cut_by_keeper (settle_events rules n old)
-cut_text rules old n before after same none is = is ∙ (ap (λ l. l ++ cut_by_keeper n) none ∙ ap cut_by_keeper (sym same))
+-- one at most, where it isn't none, is one
+one_event : (n : ℕ) → n ≤ 1 → (n ≡ 0 → ⊥) → n ≡ 1
+one_event n small some = at (eq-or-lt_of_le small)
+  where
+    at : (n ≡ 1) ⊎ (n < 1) → n ≡ 1
+    at (inl is) = is
+    at (inr below) = absurd (some (omega (arith, below)))
+
+-- just that event stands, and the reply says so
+pub first_stands : (rules : Rules) (old new : RuledSession) (n : ℕ) (text : List ℕ) → n ≤ 1 → (n ≡ 0 → ⊥)
+    → new ≡ record old { session = after_reading rules (program_settings old.orphans) (cut n) asks.Settle old.session }
+    → (try_settle rules (program_settings old.orphans) old.session.now (Some n) old.session.state).events ≡ n → text ≡ cut_by_keeper n → IsCut rules old new text
+first_stands rules old new n text small some state exact says =
+    let s : Settings = program_settings old.orphans in
+    let one : n ≡ 1 = one_event n small some in
+    record {
+      session = subst (λ k. new ≡ record old { session = after_reading rules s (cut k) asks.Settle old.session }) one state;
+      exact = subst (λ k. (try_settle rules s old.session.now (Some k) old.session.state).events ≡ k) one exact;
+      text_is = says ∙ ap cut_by_keeper one;
+    }
 
 -- the first event leaves the stored rows
 pub cut_rows : (rules : Rules) (old new : RuledSession) (n : ℕ) → n ≤ 1 → new ≡ record old { session = after_reading rules (program_settings old.orphans) (cut n) asks.Settle old.session }
@@ -173,6 +194,21 @@ pub taken_back_is : (rules : Rules) (line : Line) (old mid new : RuledSession) (
 taken_back_is rules line old mid new text saved h may is e =
     e ∙ ((λ i. record (h.2 i) { session = record (h.2 i).session { state = is i } }) ∙ ap (λ (m : SessionState). record old { session = m }) (back rules (program_settings old.orphans) h.0 line may old.session))
 
+-- what a store follows before a line it follows after it, where the session is put back, and what is done then leaves the stored rows
+pub followed_back : (told told' : Option Rows) (o o' : OrphanRule) (rows rows' : Stored) (old mid new : RuledSession) → IsFollowed told o rows old.orphans old.session.state
+    → o' ≡ o → rows' ≡ rows → (Are told (texts_of rows) → Are told' (texts_of rows')) → mid ≡ old → new.orphans ≡ mid.orphans
+    → stored mid.orphans new.session.state ≡ stored mid.orphans mid.session.state → IsFollowed told' o' rows' new.orphans new.session.state
+followed_back told told' o o' rows rows' old mid new f orphans same tells back rule kept = record {
+  rule_is = orphans ∙ (f.rule_is ∙ sym (rule ∙ ap (λ (r : RuledSession). r.orphans) back));
+  rows_are = same ∙ (f.rows_are ∙ sym (ap (λ o. stored o new.session.state) rule ∙ (kept ∙ ap (λ (r : RuledSession). stored r.orphans r.session.state) back)));
+  told_are = tells f.told_are;
+}
+
+-- want of memory is answered where nothing has changed
+pub lacked : {A E : Type 0} (came : Result A E) (P : Type 0) → P → OnErr came P
+lacked (Ok x) P h = tt
+lacked (Err e) P h = h
+
 -- a settle is cut, and any other line is refused
 pub lost : (rules : Rules) (line : Line) (old new : RuledSession) (text : List ℕ) (b : Bool) → b ≡ is_settle line → changes line ≡ true → (b ≡ true → IsCut rules old new text)
     → (b ≡ false → (new ≡ old) × (text ≡ refused_keeper)) → IsRefused rules line old new text
@@ -250,17 +286,17 @@ module _ (rules : Rules) (bytes : List ℕ) where
               says ∙ ap (λ (b : Bool). if b then refused_keeper else ruled_reply rules old.ruled plain bytes) (sym read),
             )
 
-        -- and a settle of which just the first events were kept
+        -- and a settle that was cut behind its first event
         refused_rest : (h : IsCut rules old.ruled new.ruled text) → line ≡ asks.Settle → new.refusals ≡ one_more old.refusals → Answered old new text
         refused_rest h settles more =
             let read : may_be_cut (line_of bytes) ≡ true = ap may_be_cut reads ∙ ap is_settle settles in
-            let after : record old.ruled { session = after_reading rules s (cut h.events) asks.Settle old.ruled.session } ≡ ruled_after rules old.ruled (cut h.events) bytes
-            = ap (λ l. record old.ruled { session = after_reading rules s (cut h.events) l old.ruled.session }) (sym settles) ∙ after_is (cut h.events) in (
-              cut_unkept h.events,
+            let after : record old.ruled { session = after_reading rules s (cut 1) asks.Settle old.ruled.session } ≡ ruled_after rules old.ruled (cut 1) bytes
+            = ap (λ l. record old.ruled { session = after_reading rules s (cut 1) l old.ruled.session }) (sym settles) ∙ after_is (cut 1) in (
+              cut_unkept 1,
               tt,
-              kept_is (ruled_after rules old.ruled (cut h.events) bytes) _ (h.session ∙ after) more
-                  ∙ ap (λ (b : Bool). if b then one_refused (ruled_after rules old.ruled (cut h.events) bytes) old else record old { ruled = ruled_after rules old.ruled plain bytes }) (sym read),
-              h.text_is ∙ ap (λ (b : Bool). if b then cut_by_keeper (settle_events rules h.events old.ruled) else ruled_reply rules old.ruled plain bytes) (sym read),
+              kept_is (ruled_after rules old.ruled (cut 1) bytes) _ (h.session ∙ after) more
+                  ∙ ap (λ (b : Bool). if b then one_refused (ruled_after rules old.ruled (cut 1) bytes) old else record old { ruled = ruled_after rules old.ruled plain bytes }) (sym read),
+              h.text_is ∙ (ap cut_by_keeper (sym h.exact) ∙ ap (λ (b : Bool). if b then cut_by_keeper (settle_events rules old.ruled) else ruled_reply rules old.ruled plain bytes) (sym read)),
             )
 
         carried_kept : CarriesKept rules line old.ruled new.ruled old.refusals new.refusals text → Answered old new text

@@ -35,8 +35,8 @@ module _ (rules : Rules) where
       go false = acted m plain line sound
   keeps m (cut_unkept n) line sound = go (may_be_cut (line_of line))
     where
-      go : (b : Bool) → IsSound (if b then one_refused (ruled_after rules m.ruled (cut n) line) m else record m { ruled = ruled_after rules m.ruled plain line })
-      go true = acted m (cut n) line sound
+      go : (b : Bool) → IsSound (if b then one_refused (ruled_after rules m.ruled (cut 1) line) m else record m { ruled = ruled_after rules m.ruled plain line })
+      go true = acted m (cut 1) line sound
       go false = acted m plain line sound
 
   pub lines_sound : (m : KeptState) (lines : List (List ℕ)) (words : List Word) → IsSound m → IsSound (after_lines (kept_after rules) m lines words)

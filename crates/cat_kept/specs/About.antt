@@ -9,12 +9,12 @@ use Rattle.cat_model.specs.Catalogue.{Ref}
 use Rattle.cat_model.specs.Given.{given}
 use Rattle.cat_model.specs.declared.types.State.{State}
 use Rattle.cat_reach.specs.Reach.{given_refs, own_refs, reached}
-use Rattle.cat_kept_desk.specs.cat_renewed.specs.declared.reached.Reached.{Reached}
+use Rattle.cat_kept_desk.specs.cat_store.specs.cat_renewed.specs.declared.reached.Reached.{Reached}
 use Rattle.cat_table.specs.Table.{Text}
 use Rattle.cat_transcript.specs.Session.{order_numbered}
 use Rattle.cat_transcript.specs.declared.state.SessionState.{SessionState}
 use Rattle.cat_kept.specs.declared.about.About.{About}
-use Rattle.cat_kept.specs.declared.about.About.TheVariants.{Inputs, Shelf, Entity, Nothing, Everything}
+use Rattle.cat_kept.specs.declared.about.About.TheVariants.{Inputs, Shelf, Entity, Nothing, Settle}
 
 -- ---- what a line is about
 
@@ -35,17 +35,17 @@ IsAbout (asks.ShelfPut name text) m x = x ≡ Shelf name
 IsAbout (asks.ShelfDrop name) m x = x ≡ Shelf name
 IsAbout (asks.Forget r) m x = x ≡ entity_about (Some r)
 IsAbout (asks.Finish token) m x = x ≡ entity_about (option_map (λ order. order.reference) (order_numbered token m.orders))
-IsAbout asks.Settle m x = x ≡ Everything
+IsAbout asks.Settle m x = x ≡ Settle
 IsAbout _ m x = x ≡ Nothing
 
 -- ---- what was reached
 
--- the references reached between two states from what a line is about, where they may not be all
-abbrev pub refs_about : About → State → State → Option (List Ref)
-refs_about (Inputs provider seeds) m n = Some (reached seeds.items m n)
-refs_about (Entity r) m n = Some (reached (own_refs r m n) m n)
-refs_about Everything m n = None
-refs_about _ m n = Some []
+-- the references reached between two states from what a line is about, where they may not be all; those that a settle reached are given, or none are
+abbrev pub refs_about : About → Option (List Ref) → State → State → Option (List Ref)
+refs_about (Inputs provider seeds) settled m n = Some (reached seeds.items m n)
+refs_about (Entity r) settled m n = Some (reached (own_refs r m n) m n)
+refs_about Settle settled m n = settled
+refs_about _ settled m n = Some []
 
 -- the provider whose inputs a line is about
 abbrev pub provider_about : About → Option Text
@@ -57,13 +57,13 @@ abbrev pub name_about : About → Option Text
 name_about (Shelf name) = Some name
 name_about _ = None
 
--- this is what was reached between two states from what a line is about
-pub record IsReachedFrom (about : About) (m n : State) (x : Reached) : Type 0 where
-  pub references : refs_about about m n ≡ Some x.references.items
+-- this is what was reached between two states from what a line is about, given what a settle reached
+pub record IsReachedFrom (about : About) (settled : Option (List Ref)) (m n : State) (x : Reached) : Type 0 where
+  pub references : refs_about about settled m n ≡ Some x.references.items
   pub provider : x.provider ≡ provider_about about
   pub name : x.name ≡ name_about about
 
 -- what was found is what was reached, and nothing is found only where all may have been reached
-abbrev pub IsFound : About → State → State → Option Reached → Type 0
-IsFound about m n None = about ≡ Everything
-IsFound about m n (Some x) = IsReachedFrom about m n x
+abbrev pub IsFound : About → Option (List Ref) → State → State → Option Reached → Type 0
+IsFound about settled m n None = refs_about about settled m n ≡ None
+IsFound about settled m n (Some x) = IsReachedFrom about settled m n x

@@ -12,13 +12,13 @@ use Rattle.cat_transcript.specs.declared.state.RuledSession.{RuledSession}
 use Rattle.cat_kept.specs.Kept.{is_settle, is_single, refused_keeper, settle_events}
 use Rattle.cat_kept_desk.specs.Followed.{one_more}
 
--- a settle was cut after so many events, since what follows them wasn't kept: just these stand, and this is the reply
+-- a settle was cut behind its first event, since what follows it wasn't kept: just that event stands, and this is the reply
 pub record IsCut (rules : Rules) (old new : RuledSession) (text : List ℕ) : Type 0 where
-  pub events : ℕ
-  pub session : new ≡ record old { session = after_reading rules (program_settings old.orphans) (cut events) asks.Settle old.session }
-  pub text_is : text ≡ cut_by_keeper (settle_events rules events old)
+  pub session : new ≡ record old { session = after_reading rules (program_settings old.orphans) (cut 1) asks.Settle old.session }
+  pub exact : settle_events rules old ≡ 1
+  pub text_is : text ≡ cut_by_keeper 1
 
--- a line's change wasn't kept, and the session is as before; or of a settle just the first events were; and this is the reply
+-- a line's change wasn't kept, and the session is as before; or of a settle just the first event was; and this is the reply
 abbrev pub IsRefused : Rules → Line → RuledSession → RuledSession → List ℕ → Type 0
 IsRefused rules line old new text =
     ((new ≡ old) × (text ≡ refused_keeper) × (is_single line ≡ true)) ⊎ (IsCut rules old new text × (is_settle line ≡ true))

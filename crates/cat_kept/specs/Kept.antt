@@ -32,7 +32,7 @@ changes (asks.Place ticket) = false
 changes asks.Settle = true
 changes (asks.Ask ask) = false
 
--- whether a line is a settle, of which the first events may be kept and the others not
+-- whether a line is a settle, of which the first event may stand and the others not
 abbrev pub is_settle : Line → Bool
 is_settle asks.Settle = true
 is_settle _ = false
@@ -58,26 +58,27 @@ abbrev pub one_refused : RuledSession → KeptState → KeptState
 one_refused ruled m = record m { ruled = ruled; refusals = one_more m.refusals }
 
 -- the session after a line: one that wasn't kept, which may change the stored rows and is no settle, is counted and leaves it as it was; of a settle that was cut since
--- what follows its first events wasn't kept, which is counted too, just these stand; and any other line does what it does to a session that isn't kept
+-- what follows its first event wasn't kept, which is counted too, just that event stands, whatever number the word has; and any other line does what it does to a session
+-- that isn't kept
 abbrev pub kept_after : Rules → After KeptState
 kept_after rules m plain line = record m { ruled = ruled_after rules m.ruled plain line }
 kept_after rules m memory line = record m { ruled = ruled_after rules m.ruled memory line }
 kept_after rules m (cut n) line = record m { ruled = ruled_after rules m.ruled (cut n) line }
 kept_after rules m unkept line = if may_be_refused (line_of line) then one_refused m.ruled m else record m { ruled = ruled_after rules m.ruled plain line }
-kept_after rules m (cut_unkept n) line = if may_be_cut (line_of line) then one_refused (ruled_after rules m.ruled (cut n) line) m else record m { ruled = ruled_after rules m.ruled plain line }
+kept_after rules m (cut_unkept n) line = if may_be_cut (line_of line) then one_refused (ruled_after rules m.ruled (cut 1) line) m else record m { ruled = ruled_after rules m.ruled plain line }
 
 -- the reply to a line whose change wasn't kept, its LF at the end
 abbrev pub refused_keeper : List ℕ
 refused_keeper = codes "refused keeper" ++ 10 ∷ []
 
--- how many of the first n events a settle of a session has
-abbrev pub settle_events : Rules → ℕ → RuledSession → ℕ
-settle_events rules n m = (settled rules (program_settings m.orphans) (cut n) m.session).events
+-- how many events a settle of a session has that is cut behind its first one: none where nothing is due and nothing marked
+abbrev pub settle_events : Rules → RuledSession → ℕ
+settle_events rules m = (settled rules (program_settings m.orphans) (cut 1) m.session).events
 
--- the reply to a line
+-- the reply to a line; of a settle that was cut since what follows its first event wasn't kept it says just that, whatever number the word has
 abbrev pub kept_reply : Rules → Reply KeptState
 kept_reply rules m plain line = ruled_reply rules m.ruled plain line
 kept_reply rules m memory line = ruled_reply rules m.ruled memory line
 kept_reply rules m (cut n) line = ruled_reply rules m.ruled (cut n) line
 kept_reply rules m unkept line = if may_be_refused (line_of line) then refused_keeper else ruled_reply rules m.ruled plain line
-kept_reply rules m (cut_unkept n) line = if may_be_cut (line_of line) then cut_by_keeper (settle_events rules n m.ruled) else ruled_reply rules m.ruled plain line
+kept_reply rules m (cut_unkept n) line = if may_be_cut (line_of line) then cut_by_keeper (settle_events rules m.ruled) else ruled_reply rules m.ruled plain line

@@ -1,17 +1,19 @@
 //! What a line is about, and what it reached of what is stored.
 ghost use Rattle.std.specs.Prelude.{◌≡◌, IfOk, option_map};
+ghost use Rattle.std.specs.declared.option.Option.TheVariants.{None};
 ghost use Rattle.cat_kept.specs.About.{IsAbout, IsFound, entity_about};
+ghost use Rattle.cat_model.specs.declared.types.State.{State};
 
 use cat_commands::line::Line;
 use cat_hold::layers::Layers;
 use cat_kept_desk::cat_reached::reached::{reached_from, refs_of};
 use cat_kept_desk::cat_reached::seeds::mutation_seeds;
-use cat_kept_desk::cat_renewed::reached::Reached;
+use cat_kept_desk::cat_store::cat_renewed::reached::Reached;
 use cat_model::types::State;
 use cat_ref::reference::Ref;
 use cat_session::Session;
-use cat_session::cat_core::catalogue::Saved;
-use cat_table::listing::Copied;
+use cat_session::cat_desk::cat_core::catalogue::Saved;
+use cat_table::listing::{Copied, Listing};
 use cat_tree::text::Text;
 use std::alloc::{AllocError, Global};
 
@@ -26,8 +28,8 @@ pub enum About {
     Entity(Ref),
     /// Nothing that is stored.
     Nothing,
-    /// All that is stored.
-    Everything,
+    /// What a settle reaches.
+    Settle,
 }
 
 // What is about the entity of a reference, if there is one.
@@ -58,7 +60,7 @@ pub fn line_about<L: Layers>(
         }
         Line::Forget(reference) => entity_about(alloc, Some(reference)),
         Line::Finish(token) => entity_about(alloc, session.order_reference(*token)),
-        Line::Settle => Ok(About::Everything),
+        Line::Settle => Ok(About::Settle),
         Line::Refresh(_)
         | Line::Clock(_)
         | Line::Take
@@ -68,15 +70,39 @@ pub fn line_about<L: Layers>(
     }
 }
 
-/// What was reached of what is stored from what a line is about, of the state that was held before the line and the one after it; none for
-/// what may reach all. The error is want of memory.
+// These references are what was reached; no inputs were.
+fn only(references: Vec<Ref>) -> Reached
+    ensures references { result.references.items ≡ references.items }
+    ensures provider { result.provider ≡ None }
+    ensures name { result.name ≡ None }
+{
+    Reached {
+        references,
+        provider: None,
+        name: None,
+    }
+}
+
+// What a settle reached, where the references that it reached were gathered.
+fn gathered(settled: Option<Listing<Ref>>) -> Option<Reached>
+    ensures { (m n : State) → IsFound About.Settle settled m n result }
+{
+    match settled {
+        Some(references) => Some(only(references.into_vec())),
+        None => None,
+    }
+}
+
+/// What was reached of what is stored from what a line is about, of the state that was held before the line and the one after it; of a settle it was
+/// gathered, or it may be all, and then there is none. The error is want of memory.
 pub fn reached<L: Layers>(
     alloc: Global,
     about: About,
+    settled: Option<Listing<Ref>>,
     saved: &Saved<L>,
     after: &State,
 ) -> Result<Option<Reached>, AllocError>
-    ensures { IfOk result (λ found. IsFound about saved.now after.now found) }
+    ensures { IfOk result (λ found. IsFound about settled saved.now after.now found) }
 {
     let before = saved.state();
     match about {
@@ -90,16 +116,8 @@ pub fn reached<L: Layers>(
             provider: None,
             name: Some(name),
         })),
-        About::Entity(reference) => Ok(Some(Reached {
-            references: refs_of(alloc, &reference, before, after)?,
-            provider: None,
-            name: None,
-        })),
-        About::Nothing => Ok(Some(Reached {
-            references: Vec::new(alloc),
-            provider: None,
-            name: None,
-        })),
-        About::Everything => Ok(None),
+        About::Entity(reference) => Ok(Some(only(refs_of(alloc, &reference, before, after)?))),
+        About::Nothing => Ok(Some(only(Vec::new(alloc)))),
+        About::Settle => Ok(gathered(settled)),
     }
 }

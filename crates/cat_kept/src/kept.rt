@@ -10,9 +10,11 @@ ghost use Rattle.cat_kept.specs.Kept.{changes, is_settle, kept_after, kept_reply
 ghost use Rattle.cat_kept_desk.specs.Followed.{IsFollowed};
 ghost use Rattle.cat_loop.specs.Word.{AnswersLine};
 ghost use Rattle.cat_model.specs.Sound.{AreOffers, AreSmall};
-ghost use Rattle.cat_kept_desk.specs.cat_renewed.specs.Renewed.{IsBeyond};
-ghost use Rattle.cat_kept_desk.specs.cat_renewed.specs.declared.reached.Reached.{Reached};
+ghost use Rattle.cat_reach.specs.Gathered.{IsWithin};
+ghost use Rattle.cat_kept_desk.specs.cat_store.specs.cat_renewed.specs.Renewed.{IsBeyond};
+ghost use Rattle.cat_kept_desk.specs.cat_store.specs.cat_renewed.specs.declared.reached.Reached.{Reached};
 ghost use Rattle.cat_session.specs.Carried.{Carries};
+ghost use Rattle.cat_session.specs.cat_replies.specs.Events.{cut_by_keeper};
 ghost use Rattle.cat_tables.specs.Stored.{stored, texts_of};
 
 use crate::about::{About, line_about, reached};
@@ -23,9 +25,11 @@ use cat_keeper::keeper::{Committed, Keeper};
 use cat_kept_desk::cat_store::store::Store;
 use cat_loop::Machine;
 use cat_model::types::State;
+use cat_ref::reference::Ref;
 use cat_session::Session;
-use cat_session::cat_core::catalogue::Saved;
+use cat_session::cat_desk::cat_core::catalogue::Saved;
 use cat_session::cat_replies::events::push_cut_by_keeper;
+use cat_table::listing::Listing;
 use std::alloc::{AllocError, Global};
 use std::marker::Model;
 
@@ -105,11 +109,31 @@ fn pass<L: Layers>(session: &mut Session<L>, line: Line) -> Result<Vec<u8>, Allo
     session.carry_out(line)
 }
 
-// What a line is answered where its change is kept and where it isn't, room for what a settle is answered that isn't kept, and what the catalogue held
-// before it.
+// Carries out a line, and gives the reply with the references that a settle reached, where they were gathered.
+fn carry_out<L: Layers>(
+    session: &mut Session<L>,
+    line: Line,
+) -> Result<(Vec<u8>, Option<Listing<Ref>>), AllocError>
+    requires { IsReady line }
+    ensures text { IfOk result (λ x. Carries L.rules line session.old session.new x.0.items) }
+    ensures settled { IfOk result (λ x. IsWithin x.1 session.old.session.state session.new.session.state) }
+    ensures err { OnErr result (session.new ≡ session.old) }
+{
+    match line {
+        Line::Settle => session.settle_reaching(),
+        line => {
+            let text = session.carry_out(line)?;
+            Ok((text, None))
+        }
+    }
+}
+
+// What a line is answered where its change is kept and where it isn't, the references that a settle reached, where they were gathered, room for what a settle
+// is answered that isn't kept, and what the catalogue held before the line.
 #[derive(Drop)]
 struct Carried<L: Layers> {
     text: Vec<u8>,
+    settled: Option<Listing<Ref>>,
     refused: Vec<u8>,
     room: Vec<u8>,
     saved: Saved<L>,
@@ -123,6 +147,7 @@ fn carry<L: Layers>(
 ) -> Result<Carried<L>, AllocError>
     requires { IsReady line }
     ensures text { IfOk result (λ x. Carries L.rules line session.old session.new x.text.items) }
+    ensures settled { IfOk result (λ x. IsWithin x.settled session.old.session.state session.new.session.state) }
     ensures refused { IfOk result (λ x. x.refused.items ≡ refused_keeper) }
     ensures room { IfOk result (λ x. 128 ≤ vec_capacity x.room) }
     ensures empty { IfOk result (λ x. x.room.items ≡ []) }
@@ -132,9 +157,10 @@ fn carry<L: Layers>(
     let refused = refusal(alloc)?;
     let room = Vec::with_capacity(alloc, ROOM)?;
     let saved = session.saved()?;
-    match session.carry_out(line) {
-        Ok(text) => Ok(Carried {
+    match carry_out(session, line) {
+        Ok((text, settled)) => Ok(Carried {
             text,
+            settled,
             refused,
             room,
             saved,
@@ -146,16 +172,17 @@ fn carry<L: Layers>(
     }
 }
 
-// Has the store follow a line, given what the line is about, and what the catalogue held before it and holds after it.
+// Has the store follow a line, given what the line is about, what a settle reached, and what the catalogue held before it and holds after it.
 fn keep<L: Layers, K: Keeper>(
     alloc: Global,
     store: &mut Store<K>,
     about: About,
+    settled: Option<Listing<Ref>>,
     saved: &Saved<L>,
     after: &State,
 ) -> Committed
     requires rows { store.old.rows ≡ stored store.old.orphans saved.now }
-    requires beyond { (x : Reached) → IsReachedFrom about saved.now after.now x → IsBeyond x saved.now after.now }
+    requires beyond { (x : Reached) → IsReachedFrom about settled saved.now after.now x → IsBeyond x saved.now after.now }
     requires offers { AreOffers after.now }
     requires small { AreSmall after.now }
     ensures rows { result ≡ Kept → store.new.rows ≡ stored store.old.orphans after.now }
@@ -166,48 +193,64 @@ fn keep<L: Layers, K: Keeper>(
     ensures later { K.faults store.old.keeper ≤ K.faults store.new.keeper }
     ensures cause { result ≡ Committed.Failed → Rose (K.faults store.old.keeper) (K.faults store.new.keeper) }
 {
-    match reached(alloc, about, saved, after) {
+    match reached(alloc, about, settled, saved, after) {
         Err(_) => Committed::NoMemory,
         Ok(None) => store.follow(alloc, after),
         Ok(Some(reached)) => store.follow_reached(alloc, &reached, saved.state(), after),
     }
 }
 
-// Of a settle whose change wasn't kept the first event alone is done, which leaves the stored rows as they are, and the room for its reply is filled.
-fn cut_short<L: Layers>(session: &mut Session<L>, mut room: Vec<u8>) -> Vec<u8>
+// Fills the room for the reply to a settle of which just so many events stand.
+fn cut_line(mut room: Vec<u8>, events: u64) -> Vec<u8>
     requires room { 128 ≤ vec_capacity room }
     requires empty { room.items ≡ [] }
-    ensures cut { IsCut L.rules session.old session.new result.items }
-    ensures rows { stored session.old.orphans session.new.session.state ≡ stored session.old.orphans session.old.session.state }
-    ensures rule { session.new.orphans ≡ session.old.orphans }
+    ensures { result.items ≡ cut_by_keeper events }
 {
-    let _state = session.view();
-    let events = session.settle_within(1);
     match push_cut_by_keeper(&mut room, events) {
         Ok(()) => room,
         Err(_) => unreachable!(),
     }
 }
 
-// What is answered to a line whose change wasn't kept, before which the session stands again.
+// Of a settle whose change wasn't kept the first event alone is done, which leaves the stored rows as they are, and the room for its reply is filled. The error
+// is want of memory for that event: the session is then as before.
+fn cut_short<L: Layers>(session: &mut Session<L>, room: Vec<u8>) -> Result<Vec<u8>, AllocError>
+    requires room { 128 ≤ vec_capacity room }
+    requires empty { room.items ≡ [] }
+    ensures cut { IfOk result (λ text. IsCut L.rules session.old session.new text.items) }
+    ensures err { OnErr result (session.new ≡ session.old) }
+    ensures rows { stored session.old.orphans session.new.session.state ≡ stored session.old.orphans session.old.session.state }
+    ensures rule { session.new.orphans ≡ session.old.orphans }
+{
+    let _state = session.view();
+    let events = session.settle_within(1);
+    if events == 0 {
+        return Err(AllocError);
+    }
+    Ok(cut_line(room, events))
+}
+
+// What is answered to a line whose change wasn't kept, before which the session stands again. The error is want of memory for the first event of a settle: the
+// session is then as before.
 fn unkept<L: Layers>(
     session: &mut Session<L>,
     is_settle: bool,
     refused: Vec<u8>,
     room: Vec<u8>,
-) -> Vec<u8>
+) -> Result<Vec<u8>, AllocError>
     requires refused { refused.items ≡ refused_keeper }
     requires room { 128 ≤ vec_capacity room }
     requires empty { room.items ≡ [] }
-    ensures cut { is_settle ≡ true → IsCut L.rules session.old session.new result.items }
-    ensures whole { is_settle ≡ false → (session.new ≡ session.old) × (result.items ≡ refused_keeper) }
+    ensures cut { is_settle ≡ true → IfOk result (λ text. IsCut L.rules session.old session.new text.items) }
+    ensures whole { is_settle ≡ false → IfOk result (λ text. (session.new ≡ session.old) × (text.items ≡ refused_keeper)) }
+    ensures err { OnErr result (session.new ≡ session.old) }
     ensures rows { stored session.old.orphans session.new.session.state ≡ stored session.old.orphans session.old.session.state }
     ensures rule { session.new.orphans ≡ session.old.orphans }
 {
     if is_settle {
         cut_short(session, room)
     } else {
-        refused
+        Ok(refused)
     }
 }
 
@@ -234,19 +277,21 @@ fn follow<L: Layers, K: Keeper>(
     let is_settle = is_settle(&line);
     let Carried {
         text,
+        settled,
         refused,
         room,
         saved,
     } = carry(alloc, session, line)?;
-    match keep(alloc, store, about, &saved, session.sound_state()) {
+    match keep(alloc, store, about, settled, &saved, session.sound_state()) {
         Committed::Kept => {
             drop(saved);
             Ok(text)
         }
         Committed::Failed => {
             session.put_back(saved);
+            let answer = unkept(session, is_settle, refused, room)?;
             *refusals = refusals.saturating_add(1);
-            Ok(unkept(session, is_settle, refused, room))
+            Ok(answer)
         }
         Committed::NoMemory => {
             session.put_back(saved);

@@ -4,11 +4,11 @@ use Rattle.std.specs.declared.option.Option.{Option}
 use Rattle.std.specs.declared.option.Option.TheVariants.{None, Some}
 use Rattle.std.specs.declared.result.Result.{Result}
 use Rattle.std.specs.declared.result.Result.TheVariants.{Ok, Err}
-use Rattle.cat_spare.specs.cat_core.specs.Answer.{core_fault, stop_answer}
-use Rattle.cat_spare.specs.cat_core.specs.declared.fault.CoreFault.{CoreFault}
-use Rattle.cat_spare.specs.cat_core.specs.declared.fault.CoreFault.TheVariants as core
-use Rattle.cat_spare.specs.cat_core.specs.declared.fault.Cut.{Cut as CutSettle}
-use Rattle.cat_spare.specs.cat_core.specs.declared.ledger.Ledger.{Ledger}
+use Rattle.cat_spare.specs.cat_desk.specs.cat_core.specs.Answer.{core_fault, stop_answer}
+use Rattle.cat_spare.specs.cat_desk.specs.cat_core.specs.declared.fault.CoreFault.{CoreFault}
+use Rattle.cat_spare.specs.cat_desk.specs.cat_core.specs.declared.fault.CoreFault.TheVariants as core
+use Rattle.cat_spare.specs.cat_desk.specs.cat_core.specs.declared.fault.Cut.{Cut as CutSettle}
+use Rattle.cat_spare.specs.cat_desk.specs.cat_core.specs.declared.ledger.Ledger.{Ledger}
 use Rattle.cat_spare.specs.cat_desk.specs.Acts.{Acts, answered, deed_reply, event_reply, or_refused, settle_reply, settled_as}
 use Rattle.cat_spare.specs.cat_desk.specs.Deed.{Deed}
 use Rattle.cat_spare.specs.cat_desk.specs.Deed.Deed.{Mutate, ShelfPut, ShelfDrop, Refresh, Forget, ForgetNumber, Take, Finish, TakeStitch, PutStitch, Settle}

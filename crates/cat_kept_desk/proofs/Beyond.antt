@@ -2,13 +2,14 @@
 use Rattle.std.proofs.Common.{◌≡◌, ℕ, false, List, [], refl, sym, ap, subst, ◌∙◌}
 use Rattle.std.specs.declared.option.Option.{Option}
 use Rattle.std.specs.declared.option.Option.TheVariants.{None, Some}
-use Rattle.cat_spare.specs.cat_core.specs.declared.ledger.Ledger.{Ledger}
+use Rattle.cat_spare.specs.cat_desk.specs.cat_core.specs.declared.ledger.Ledger.{Ledger}
 use Rattle.cat_spare.specs.cat_desk.specs.Acts.{Acts, after_deed, done}
 use Rattle.cat_spare.specs.cat_desk.specs.Deed.{Deed}
 use Rattle.cat_spare.specs.cat_desk.specs.Deed.Deed.{Mutate, ShelfPut, ShelfDrop, Refresh, Forget, ForgetNumber, Take, Finish, TakeStitch, PutStitch, Settle}
 use Rattle.cat_spare.specs.cat_desk.specs.declared.command.Reply.{Reply}
 use Rattle.cat_loop.specs.Word.{Word, plain, memory, cut, unkept, cut_unkept}
 use Rattle.cat_model.specs.Catalogue.{Ref, Rules}
+use Rattle.cat_model.specs.Settle.{try_settle}
 use Rattle.cat_model.specs.Sound.{Sound}
 use Rattle.cat_model.specs.Step.{ref_at, step}
 use Rattle.cat_model.specs.Step.Event.{Mutate as Mutated, ShelfPut as PutOnShelf, ShelfDrop as DroppedFromShelf, Refresh as Refreshed, Forget as Forgotten, ForgetNumber as NumberForgotten, Take as Taken, Finish as Finished, PutStitch as StitchPut}
@@ -19,11 +20,12 @@ use Rattle.cat_reached.specs.cat_reach.proofs.Mutated.{mutate_inputs, mutate_rea
 use Rattle.cat_reached.specs.cat_reach.proofs.Nothing.{put_stitch_reaches, refresh_reaches, shelf_drop_reaches, shelf_put_reaches, take_reaches}
 use Rattle.cat_reached.specs.cat_reach.proofs.Own.{finish_reaches, forget_number_reaches, forget_reaches, no_number}
 use Rattle.cat_reached.specs.cat_reach.proofs.Stepped.{unchanged}
+use Rattle.cat_reached.specs.cat_reach.specs.Gathered.{IsWithin}
 use Rattle.cat_reached.specs.cat_reach.specs.Reach.{AreSameBeyond, AreSameInputs, AreSameProvidersBut, AreSameTextsBut}
 use Rattle.cat_store.specs.cat_renewed.specs.Renewed.{IsBeyond, is_it}
 use Rattle.cat_store.specs.cat_renewed.specs.declared.reached.Reached.{Reached}
 use Rattle.cat_table.specs.Table.{Text, get}
-use Rattle.cat_store.specs.cat_tables.proofs.In.{none_some, same_some}
+use Rattle.cat_store.specs.cat_tables.proofs.In.{same_some}
 use Rattle.cat_kept_desk.specs.Reached.{IsReached, provider_reached, refs_from, refs_reached, text_reached}
 
 -- what holds beyond these references and of inputs, as what was reached has it
@@ -55,49 +57,55 @@ module _ (rules : Rules) (s : Settings) (now : ℕ) (m : State) (sound : Sound r
       (subst (λ n. IsAround (refs_from (Some r) m n) None None m n) (sym is)
       (around _ m (step rules s (NumberForgotten k) m) (forget_number_reaches rules s m sound k r e) (inputs_stay rules s m (NumberForgotten k) refl)))
 
-  -- what an event reaches, of those that a deed does
-  reaches : (limit : Option ℕ) (d : Deed) (refs : List Ref) → (let n = done rules s now limit d m in refs_reached d m n ≡ Some refs → IsAround refs (provider_reached d) (text_reached d) m n)
-  reaches limit (Mutate p x) refs e =
+  -- what an event reaches, of those that a deed does, and what was gathered of a settle
+  reaches : (limit : Option ℕ) (d : Deed) (settled : Option (List Ref)) (refs : List Ref)
+      → (let n = done rules s now limit d m in IsWithin settled m n → refs_reached d settled m n ≡ Some refs → IsAround refs (provider_reached d) (text_reached d) m n)
+  reaches limit (Mutate p x) settled refs within e =
       subst (λ r. IsAround r (Some p) None m (step rules s (Mutated p x) m)) (same_some e)
       (around_provider _ p m (step rules s (Mutated p x) m) (mutate_reaches rules s m p x sound) (mutate_inputs rules s m p x))
-  reaches limit (ShelfPut name text) refs e =
+  reaches limit (ShelfPut name text) settled refs within e =
       subst (λ r. IsAround r None (Some name) m (step rules s (PutOnShelf name text) m)) (same_some e)
       (around_text [] name m (step rules s (PutOnShelf name text) m) (shelf_put_reaches rules s m sound name text) (put_inputs rules s m name text))
-  reaches limit (ShelfDrop name) refs e =
+  reaches limit (ShelfDrop name) settled refs within e =
       subst (λ r. IsAround r None (Some name) m (step rules s (DroppedFromShelf name) m)) (same_some e)
       (around_text [] name m (step rules s (DroppedFromShelf name) m) (shelf_drop_reaches rules s m sound name) (drop_inputs rules s m name))
-  reaches limit (Refresh r) refs e =
+  reaches limit (Refresh r) settled refs within e =
       subst (λ q. IsAround q None None m (step rules s (Refreshed r) m)) (same_some e)
       (around [] m (step rules s (Refreshed r) m) (refresh_reaches rules s m r) (inputs_stay rules s m (Refreshed r) refl))
-  reaches limit (Forget r) refs e =
+  reaches limit (Forget r) settled refs within e =
       subst (λ q. IsAround q None None m (step rules s (Forgotten r) m)) (same_some e)
       (around _ m (step rules s (Forgotten r) m) (forget_reaches rules s m sound r) (inputs_stay rules s m (Forgotten r) refl))
-  reaches limit (ForgetNumber k) refs e =
+  reaches limit (ForgetNumber k) settled refs within e =
       subst (λ q. IsAround q None None m (step rules s (NumberForgotten k) m)) (same_some e) (number k (ref_at m k) refl (step rules s (NumberForgotten k) m) refl)
-  reaches limit Take refs e =
+  reaches limit Take settled refs within e =
       subst (λ r. IsAround r None None m (step rules s (Taken now) m)) (same_some e)
       (around [] m (step rules s (Taken now) m) (take_reaches rules s m now) (inputs_stay rules s m (Taken now) refl))
-  reaches limit (Finish order) refs e =
+  reaches limit (Finish order) settled refs within e =
       subst (λ q. IsAround q None None m (step rules s (Finished order now) m)) (same_some e)
       (around _ m (step rules s (Finished order now) m) (finish_reaches rules s m sound order now) (inputs_stay rules s m (Finished order now) refl))
-  reaches limit (TakeStitch after) refs e = still refs None None m
-  reaches limit (PutStitch order) refs e =
+  reaches limit (TakeStitch after) settled refs within e = still refs None None m
+  reaches limit (PutStitch order) settled refs within e =
       subst (λ r. IsAround r None None m (step rules s (StitchPut order) m)) (same_some e)
       (around [] m (step rules s (StitchPut order) m) (put_stitch_reaches rules s m order) (inputs_stay rules s m (StitchPut order) refl))
-  reaches limit Settle refs e = absurd (none_some e)
+  reaches limit Settle settled refs within e =
+      let n = (try_settle rules s now limit m).state in
+      let gathered = subst (λ g. IsWithin g m n) e within in
+      around refs m n gathered.0 gathered.1
 
-  worded : (word : Word) (d : Deed) (refs : List Ref) → (let n = after_deed rules s now word d m in refs_reached d m n ≡ Some refs → IsAround refs (provider_reached d) (text_reached d) m n)
-  worded plain d refs e = reaches None d refs e
-  worded memory d refs e = still refs (provider_reached d) (text_reached d) m
-  worded (cut k) d refs e = reaches (Some k) d refs e
-  worded unkept d refs e = reaches None d refs e
-  worded (cut_unkept i) d refs e = reaches None d refs e
+  worded : (word : Word) (d : Deed) (settled : Option (List Ref)) (refs : List Ref)
+      → (let n = after_deed rules s now word d m in IsWithin settled m n → refs_reached d settled m n ≡ Some refs → IsAround refs (provider_reached d) (text_reached d) m n)
+  worded plain d settled refs within e = reaches None d settled refs within e
+  worded memory d settled refs within e = still refs (provider_reached d) (text_reached d) m
+  worded (cut k) d settled refs within e = reaches (Some k) d settled refs within e
+  worded unkept d settled refs within e = reaches None d settled refs within e
+  worded (cut_unkept i) d settled refs within e = reaches None d settled refs within e
 
--- beyond what a deed reached nothing that is stored has changed
-pub deed_reaches : (rules : Rules) (now : ℕ) (d : Deed) (old new : Ledger) (reply : Reply) → Acts rules now d old new reply → Sound rules old.state → (x : Reached) → IsReached d old.state new.state x → IsBeyond x old.state new.state
-deed_reaches rules now d old new reply acts sound x is =
-    let f = subst (λ n. refs_reached d old.state n ≡ Some x.references.items → IsAround x.references.items (provider_reached d) (text_reached d) old.state n) (sym acts.state)
-    (worded rules old.settings now old.state sound acts.word d x.references.items) is.references in
+-- beyond what a deed reached nothing that is stored has changed, where a settle changed nothing beyond what was gathered of it
+pub deed_reaches : (rules : Rules) (now : ℕ) (d : Deed) (old new : Ledger) (reply : Reply) (settled : Option (List Ref)) → Acts rules now d old new reply → Sound rules old.state
+    → IsWithin settled old.state new.state → (x : Reached) → IsReached d settled old.state new.state x → IsBeyond x old.state new.state
+deed_reaches rules now d old new reply settled acts sound within x is =
+    let f = subst (λ n. IsWithin settled old.state n → refs_reached d settled old.state n ≡ Some x.references.items → IsAround x.references.items (provider_reached d) (text_reached d) old.state n) (sym acts.state)
+    (worded rules old.settings now old.state sound acts.word d settled x.references.items) within is.references in
     record {
       references = f.references;
       providers = λ q out. f.providers q (ap (is_it q) (sym is.provider) ∙ out);
@@ -105,8 +113,9 @@ deed_reaches rules now d old new reply acts sound x is =
     }
 
 -- the same of a state that was held before it and of one that is held after it
-pub command_reaches : (rules : Rules) (now : ℕ) (d : Deed) (old new : Ledger) (reply : Reply) (m n : State) → Acts rules now d old new reply → Sound rules m → m ≡ old.state → n ≡ new.state → (x : Reached) → IsReached d m n x → IsBeyond x m n
-command_reaches rules now d old new reply m n acts sound before after x is =
+pub command_reaches : (rules : Rules) (now : ℕ) (d : Deed) (old new : Ledger) (reply : Reply) (settled : Option (List Ref)) (m n : State) → Acts rules now d old new reply → Sound rules m
+    → IsWithin settled old.state new.state → m ≡ old.state → n ≡ new.state → (x : Reached) → IsReached d settled m n x → IsBeyond x m n
+command_reaches rules now d old new reply settled m n acts sound within before after x is =
     subst (λ k. IsBeyond x k n) (sym before)
     (subst (λ k. IsBeyond x old.state k) (sym after)
-    (deed_reaches rules now d old new reply acts (subst (Sound rules) before sound) x (subst (λ k. IsReached d old.state k x) after (subst (λ k. IsReached d k n x) before is))))
+    (deed_reaches rules now d old new reply settled acts (subst (Sound rules) before sound) within x (subst (λ k. IsReached d settled old.state k x) after (subst (λ k. IsReached d settled k n x) before is))))

@@ -1,9 +1,9 @@
 -- Deeds of a catalogue that is kept, and those that leave its stored rows as they are.
 use Rattle.std.specs.Prelude.{◌≡◌, ◌⊎◌, ℕ, Bool, true, false, nat_le, is_none}
 use Rattle.std.specs.declared.option.Option.TheVariants.{Some}
-use Rattle.cat_spare.specs.cat_core.specs.declared.fault.CoreFault.{CoreFault}
-use Rattle.cat_spare.specs.cat_core.specs.declared.fault.CoreFault.TheVariants.{Keeper}
-use Rattle.cat_spare.specs.cat_core.specs.declared.ledger.Ledger.{Ledger}
+use Rattle.cat_spare.specs.cat_desk.specs.cat_core.specs.declared.fault.CoreFault.{CoreFault}
+use Rattle.cat_spare.specs.cat_desk.specs.cat_core.specs.declared.fault.CoreFault.TheVariants.{Keeper}
+use Rattle.cat_spare.specs.cat_desk.specs.cat_core.specs.declared.ledger.Ledger.{Ledger}
 use Rattle.cat_spare.specs.cat_desk.specs.Acts.{Acts}
 use Rattle.cat_spare.specs.cat_desk.specs.Deed.{Deed}
 use Rattle.cat_spare.specs.cat_desk.specs.Deed.Deed.{Mutate, ShelfPut, ShelfDrop, Refresh, Forget, ForgetNumber, Take, Finish, TakeStitch, PutStitch, Settle}
@@ -56,16 +56,15 @@ pub record IsUnkept (d : Deed) (old new : Ledger) (reply : Reply) : Type 0 where
   pub settings : new.settings ≡ old.settings
   pub answer : reply ≡ Refused Keeper
 
--- A settle was cut, since what follows its first events wasn't kept: just these stand, and it is answered how many they are.
+-- A settle was cut behind its first event, since what follows it wasn't kept: just this event stands, and it is answered so.
 pub record IsCutUnkept (rules : Rules) (now : ℕ) (d : Deed) (old new : Ledger) (reply : Reply) : Type 0 where
   pub settles : d ≡ Settle
-  pub events : ℕ
-  pub state : new.state ≡ (try_settle rules old.settings now (Some events) old.state).state
-  pub exact : (try_settle rules old.settings now (Some events) old.state).events ≡ events
+  pub state : new.state ≡ (try_settle rules old.settings now (Some 1) old.state).state
+  pub exact : (try_settle rules old.settings now (Some 1) old.state).events ≡ 1
   pub settings : new.settings ≡ old.settings
-  pub answer : reply ≡ Cut (record { events = events; fault = Keeper })
+  pub answer : reply ≡ Cut (record { events = 1; fault = Keeper })
 
--- A deed wasn't kept, or of a settle just the first events were.
+-- A deed wasn't kept, or of a settle just the first event was.
 abbrev pub IsLost : Rules → ℕ → Deed → Ledger → Ledger → Reply → Type 0
 IsLost rules now d old new reply = IsUnkept d old new reply ⊎ IsCutUnkept rules now d old new reply
 

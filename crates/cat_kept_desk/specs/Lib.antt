@@ -3,6 +3,4 @@ pub mod Deeds
 pub mod Reached
 pub use Rattle.cat_fed
 pub use Rattle.cat_reached
-pub use Rattle.cat_store.specs.cat_renewed
-pub use Rattle.cat_store.specs.cat_reopened
 pub use Rattle.cat_store

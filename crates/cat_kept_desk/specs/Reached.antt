@@ -1,5 +1,5 @@
 -- What a deed reached of what is stored.
-use Rattle.std.specs.Prelude.{◌≡◌, ⊤, List, []}
+use Rattle.std.specs.Prelude.{◌≡◌, List, []}
 use Rattle.std.specs.declared.option.Option.{Option}
 use Rattle.std.specs.declared.option.Option.TheVariants.{None, Some}
 use Rattle.cat_spare.specs.cat_desk.specs.Deed.{Deed}
@@ -16,14 +16,15 @@ abbrev pub refs_from : Option Ref → State → State → List Ref
 refs_from None m n = []
 refs_from (Some r) m n = reached (own_refs r m n) m n
 
--- the references that a deed reached between two states; a settle may reach all
-abbrev pub refs_reached : Deed → State → State → Option (List Ref)
-refs_reached (Mutate provider x) m n = Some (reached (given_refs provider x m) m n)
-refs_reached (Forget r) m n = Some (refs_from (Some r) m n)
-refs_reached (ForgetNumber number) m n = Some (refs_from (ref_at m number) m n)
-refs_reached (Finish order) m n = Some (refs_from (Some order.reference) m n)
-refs_reached Settle m n = None
-refs_reached d m n = Some []
+-- the references that a deed reached between two states; those of a settle are the ones that were gathered as it went on, and it may have reached all
+-- where none were
+abbrev pub refs_reached : Deed → Option (List Ref) → State → State → Option (List Ref)
+refs_reached (Mutate provider x) settled m n = Some (reached (given_refs provider x m) m n)
+refs_reached (Forget r) settled m n = Some (refs_from (Some r) m n)
+refs_reached (ForgetNumber number) settled m n = Some (refs_from (ref_at m number) m n)
+refs_reached (Finish order) settled m n = Some (refs_from (Some order.reference) m n)
+refs_reached Settle settled m n = settled
+refs_reached d settled m n = Some []
 
 -- the provider whose inputs a deed may change
 abbrev pub provider_reached : Deed → Option Text
@@ -36,13 +37,13 @@ text_reached (ShelfPut name text) = Some name
 text_reached (ShelfDrop name) = Some name
 text_reached d = None
 
--- this is what a deed reached
-pub record IsReached (d : Deed) (m n : State) (x : Reached) : Type 0 where
-  pub references : refs_reached d m n ≡ Some x.references.items
+-- this is what a deed reached, where these references of a settle were gathered
+pub record IsReached (d : Deed) (settled : Option (List Ref)) (m n : State) (x : Reached) : Type 0 where
+  pub references : refs_reached d settled m n ≡ Some x.references.items
   pub provider : x.provider ≡ provider_reached d
   pub name : x.name ≡ text_reached d
 
--- what was found, if anything was, is what a deed reached
-abbrev pub IsFound : Deed → State → State → Option Reached → Type 0
-IsFound d m n None = ⊤
-IsFound d m n (Some x) = IsReached d m n x
+-- what was found is what a deed reached, and nothing is found only of a settle of which no references were gathered
+abbrev pub IsFound : Deed → Option (List Ref) → State → State → Option Reached → Type 0
+IsFound d settled m n None = refs_reached d settled m n ≡ None
+IsFound d settled m n (Some x) = IsReached d settled m n x

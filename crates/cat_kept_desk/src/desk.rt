@@ -3,15 +3,17 @@ ghost use Rattle.std.specs.Prelude.{◌≡◌, ◌≢◌, ◌<◌, ◌≤◌, �
 ghost use Rattle.cat_spare.specs.cat_desk.specs.Acts.{Acts};
 ghost use Rattle.cat_spare.specs.cat_desk.specs.Asks.{AsksOnce};
 ghost use Rattle.cat_spare.specs.cat_desk.specs.Deed.{deed_of};
+ghost use Rattle.cat_spare.specs.cat_desk.specs.Deed.Deed.{Settle};
 ghost use Rattle.cat_fed.specs.Told.{Tells};
 ghost use Rattle.cat_feed.specs.Feed.{begun};
 ghost use Rattle.cat_io.specs.Causes.{Rose};
 ghost use Rattle.cat_io.specs.Clock.{CountsReading};
-ghost use Rattle.cat_kept_desk.specs.Deeds.{IsLost, KeptActs, is_lost, is_settle, leaves_rows};
+ghost use Rattle.cat_kept_desk.specs.Deeds.{KeptActs, is_lost, is_settle, leaves_rows};
 ghost use Rattle.cat_keeper.specs.Answers.{Are};
 ghost use Rattle.cat_keeper.specs.declared.keeper.Committed.TheVariants.{Kept};
 ghost use Rattle.cat_kept_desk.specs.Followed.{IsFollowed};
 ghost use Rattle.cat_kept_desk.specs.Reached.{IsReached};
+ghost use Rattle.cat_reached.specs.cat_reach.specs.Gathered.{IsWithin};
 ghost use Rattle.cat_spare.specs.Spare.{IsSpare};
 ghost use Rattle.cat_model.specs.Sound.{AreOffers, AreSmall};
 ghost use Rattle.cat_store.specs.cat_renewed.specs.Renewed.{IsBeyond};
@@ -23,21 +25,23 @@ use cat_fed::desk::{FeedAnswer, FeedDesk};
 use cat_fed::fed::tell;
 use cat_feed::change::Since;
 use cat_feed::feed::Feed;
+use cat_hold::layers::Layers;
 use cat_io::Clock;
 use cat_keeper::keeper::{Committed, Keeper};
 use cat_model::types::State;
 use cat_query::ask::Ask;
-use cat_spare::cat_core::catalogue::{Catalogue, Done, Saved, Stitched};
-use cat_spare::cat_core::fault::{CoreFault, Cut};
+use cat_ref::reference::Ref;
 use cat_spare::cat_desk::asks::{prepare, write_ask};
+use cat_spare::cat_desk::cat_core::cat_settle::cat_events::given::serial_of;
+use cat_spare::cat_desk::cat_core::cat_settle::cat_events::mutation::last_serial;
+use cat_spare::cat_desk::cat_core::catalogue::{Catalogue, Done, Saved, Stitched};
+use cat_spare::cat_desk::cat_core::fault::{CoreFault, Cut};
 use cat_spare::cat_desk::command::{Asked, Command, Reply};
 use cat_spare::cat_desk::desk::Desk;
-use cat_spare::cat_desk::timed::act;
+use cat_spare::cat_desk::timed::{act, settle_reaching};
 use cat_spare::spare::{bring_up, brought_up, taken};
-use cat_store::cat_events::given::serial_of;
-use cat_store::cat_events::mutation::last_serial;
-use cat_store::cat_hold::layers::Layers;
 use cat_store::store::Store;
+use cat_table::listing::Listing;
 use std::alloc::Global;
 
 /// A catalogue with a clock and a feed, and the store that follows it. Its type keeps that a keeper which tells its tables holds those of
@@ -158,16 +162,34 @@ fn pass<L: Layers>(
     reply
 }
 
-// Has the store follow a command, given what the catalogue held before it and holds after it.
+// Does what a command says, and hands on the references that a settle reached, if they were gathered.
+fn act_reaching<L: Layers>(
+    alloc: Global,
+    catalogue: &mut Catalogue<L>,
+    command: &Command<Done<'_, L>, Stitched<'_, L>>,
+    now: u64,
+) -> (Reply, Option<Listing<Ref>>)
+    requires { now < 2 ^ 53 }
+    ensures acts { Acts L.rules now (deed_of command.now) catalogue.old catalogue.new result.0 }
+    ensures reaches { IsWithin result.1 catalogue.old.state catalogue.new.state }
+{
+    match command {
+        Command::Settle => settle_reaching(alloc, catalogue, now),
+        _ => (act(alloc, catalogue, command, now), None),
+    }
+}
+
+// Has the store follow a command, given what the catalogue held before it and holds after it, and the references that a settle reached.
 fn keep<L: Layers, K: Keeper>(
     alloc: Global,
     store: &mut Store<K>,
     command: &Command<Done<'_, L>, Stitched<'_, L>>,
+    settled: Option<Listing<Ref>>,
     saved: &Saved<L>,
     after: &State,
 ) -> Committed
     requires rows { store.old.rows ≡ stored store.old.orphans saved.now }
-    requires beyond { (x : Reached) → IsReached (deed_of command.now) saved.now after.now x → IsBeyond x saved.now after.now }
+    requires beyond { (x : Reached) → IsReached (deed_of command.now) settled saved.now after.now x → IsBeyond x saved.now after.now }
     requires offers { AreOffers after.now }
     requires small { AreSmall after.now }
     ensures rows { result ≡ Kept → store.new.rows ≡ stored store.old.orphans after.now }
@@ -178,7 +200,7 @@ fn keep<L: Layers, K: Keeper>(
     ensures later { K.faults store.old.keeper ≤ K.faults store.new.keeper }
     ensures cause { result ≡ Committed.Failed → Rose (K.faults store.old.keeper) (K.faults store.new.keeper) }
 {
-    match reached(alloc, command, saved, after) {
+    match reached(alloc, command, settled, saved, after) {
         Err(_) => Committed::NoMemory,
         Ok(None) => store.follow(alloc, after),
         Ok(Some(reached)) => store.follow_reached(alloc, &reached, saved.state(), after),
@@ -204,34 +226,57 @@ fn is_settle<L: Layers>(command: &Command<Done<'_, L>, Stitched<'_, L>>) -> bool
     }
 }
 
-// What is answered to a command whose change wasn't kept, before which the catalogue stands again. Of a settle the first event alone is done, which
-// leaves the stored rows as they are.
+// Of a settle that wasn't kept, before which the catalogue stands again, the first event alone is done, which leaves the stored rows as they are, and the
+// settle is counted. Where memory lacks for that event, nothing is done, and it isn't counted.
+fn cut_short<L: Layers>(
+    alloc: Global,
+    catalogue: &mut Catalogue<L>,
+    refusals: &mut u64,
+    now: u64,
+) -> Reply
+    requires { now < 2 ^ 53 }
+    ensures acts { KeptActs L.rules now Settle catalogue.old catalogue.new refusals.old refusals.new result }
+    ensures rows { stored catalogue.old.settings.orphans catalogue.new.state ≡ stored catalogue.old.settings.orphans catalogue.old.state }
+    ensures settings { catalogue.new.settings ≡ catalogue.old.settings }
+{
+    let _state = catalogue.view();
+    let events = catalogue.settle_within(alloc, now, 1);
+    if events == 0 {
+        Reply::Refused(CoreFault::NoMemory)
+    } else {
+        *refusals = refusals.saturating_add(1);
+        Reply::Cut(Cut {
+            events,
+            fault: CoreFault::Keeper,
+        })
+    }
+}
+
+// What is answered to a command whose change wasn't kept, before which the catalogue stands again. It is counted, unless it is a settle for whose first
+// event memory lacks.
 fn unkept<L: Layers>(
     alloc: Global,
     catalogue: &mut Catalogue<L>,
+    refusals: &mut u64,
     command: &Command<Done<'_, L>, Stitched<'_, L>>,
     now: u64,
 ) -> Reply
     requires now { now < 2 ^ 53 }
     requires changes { leaves_rows (deed_of command.now) catalogue.old.state ≡ false }
-    ensures lost { IsLost L.rules now (deed_of command.now) catalogue.old catalogue.new result }
+    ensures acts { KeptActs L.rules now (deed_of command.now) catalogue.old catalogue.new refusals.old refusals.new result }
     ensures rows { stored catalogue.old.settings.orphans catalogue.new.state ≡ stored catalogue.old.settings.orphans catalogue.old.state }
     ensures settings { catalogue.new.settings ≡ catalogue.old.settings }
 {
-    let _state = catalogue.view();
     if is_settle(command) {
-        let events = catalogue.settle_within(alloc, now, 1);
-        Reply::Cut(Cut {
-            events,
-            fault: CoreFault::Keeper,
-        })
+        cut_short(alloc, catalogue, refusals, now)
     } else {
+        *refusals = refusals.saturating_add(1);
         Reply::Refused(CoreFault::Keeper)
     }
 }
 
 // Does what a command says, and has the store follow. Where the keeper fails, which is counted, or memory lacks, all is as before, but for the first event
-// of a settle that wasn't kept.
+// of a settle that wasn't kept. Where memory lacks for that event, the settle isn't counted.
 fn follow<L: Layers, K: Keeper>(
     alloc: Global,
     catalogue: &mut Catalogue<L>,
@@ -257,16 +302,22 @@ fn follow<L: Layers, K: Keeper>(
         return Reply::Refused(CoreFault::NoMemory);
     };
     let _before = saved.state();
-    let reply = act(alloc, catalogue, command, now);
-    match keep(alloc, store, command, &saved, catalogue.sound_state()) {
+    let (reply, settled) = act_reaching(alloc, catalogue, command, now);
+    match keep(
+        alloc,
+        store,
+        command,
+        settled,
+        &saved,
+        catalogue.sound_state(),
+    ) {
         Committed::Kept => {
             *spare = brought_up(alloc, catalogue, saved, command, now, &reply);
             reply
         }
         Committed::Failed => {
             catalogue.put_back(saved);
-            *refusals = refusals.saturating_add(1);
-            unkept(alloc, catalogue, command, now)
+            unkept(alloc, catalogue, refusals, command, now)
         }
         Committed::NoMemory => {
             catalogue.put_back(saved);

@@ -2,16 +2,18 @@
 ghost use Rattle.std.specs.Prelude.{◌≡◌, IfOk, option_map};
 ghost use Rattle.std.specs.declared.option.Option.TheVariants.{None};
 ghost use Rattle.cat_spare.specs.cat_desk.specs.Deed.{deed_of};
+ghost use Rattle.cat_spare.specs.cat_desk.specs.Deed.Deed.{Settle};
+ghost use Rattle.cat_model.specs.declared.types.State.{State};
 ghost use Rattle.cat_kept_desk.specs.Reached.{IsFound, refs_from};
 
+use cat_hold::layers::Layers;
 use cat_model::types::State;
 use cat_reached::reached::{mutated_refs, refs_of};
 use cat_ref::reference::Ref;
-use cat_spare::cat_core::catalogue::{Done, Saved, Stitched};
+use cat_spare::cat_desk::cat_core::catalogue::{Done, Saved, Stitched};
 use cat_spare::cat_desk::command::Command;
-use cat_store::cat_hold::layers::Layers;
 use cat_store::cat_renewed::reached::Reached;
-use cat_table::listing::Copied;
+use cat_table::listing::{Copied, Listing};
 use std::alloc::{AllocError, Global};
 
 // What was reached from a reference, if there is one; no inputs were.
@@ -35,15 +37,30 @@ fn reached_from(
     })
 }
 
-/// What a command reached of what is stored, of the state that was held before it and the one after it; none for a settle, which may reach
-/// all. The error is want of memory.
+// What a settle reached, whose references were gathered if they are there; no inputs were.
+fn settled_reached(settled: Option<Listing<Ref>>) -> Option<Reached>
+    ensures { (m n : State) → IsFound Settle settled m n result }
+{
+    match settled {
+        None => None,
+        Some(references) => Some(Reached {
+            references: references.into_vec(),
+            provider: None,
+            name: None,
+        }),
+    }
+}
+
+/// What a command reached of what is stored, of the state that was held before it and the one after it. Of a settle it is what was gathered as it went
+/// on, and none where nothing was, so that it may have reached all. The error is want of memory.
 pub fn reached<L: Layers>(
     alloc: Global,
     command: &Command<Done<'_, L>, Stitched<'_, L>>,
+    settled: Option<Listing<Ref>>,
     saved: &Saved<L>,
     after: &State,
 ) -> Result<Option<Reached>, AllocError>
-    ensures { IfOk result (λ found. IsFound (deed_of command.now) saved.now after.now found) }
+    ensures { IfOk result (λ found. IsFound (deed_of command.now) settled saved.now after.now found) }
 {
     let before = saved.state();
     match command {
@@ -74,6 +91,6 @@ pub fn reached<L: Layers>(
         Command::Refresh(_) | Command::Take | Command::TakeStitch(_) | Command::PutStitch(_) => Ok(
             Some(reached_from(alloc, None, before, after)?),
         ),
-        Command::Settle => Ok(None),
+        Command::Settle => Ok(settled_reached(settled)),
     }
 }

@@ -10,10 +10,10 @@ use Rattle.cat_api.specs.Operations.{Operation, operation}
 use Rattle.cat_api.specs.Operations.Operation.{Act, Ask, Tell}
 use Rattle.cat_api.specs.Wire.{Wired, after_operation, after_requested, operation_answer, requested_answer, wire_after, wire_reply}
 use Rattle.cat_api.specs.declared.kind.Kind.{Kind}
-use Rattle.cat_api.specs.cat_core.specs.declared.ledger.Ledger.{Ledger}
-use Rattle.cat_api.specs.cat_desk.specs.Acts.{after_deed}
-use Rattle.cat_api.specs.cat_desk.specs.Asks.{AsksOnce}
-use Rattle.cat_api.specs.cat_desk.specs.Deed.{Deed}
+use Rattle.cat_api.specs.cat_fed.specs.cat_desk.specs.cat_core.specs.declared.ledger.Ledger.{Ledger}
+use Rattle.cat_api.specs.cat_fed.specs.cat_desk.specs.Acts.{after_deed}
+use Rattle.cat_api.specs.cat_fed.specs.cat_desk.specs.Asks.{AsksOnce}
+use Rattle.cat_api.specs.cat_fed.specs.cat_desk.specs.Deed.{Deed}
 use Rattle.cat_api.specs.cat_fed.specs.Told.{Tells}
 use Rattle.cat_feed.specs.declared.ledger.Ledger.{Ledger as Feed}
 use Rattle.cat_http.specs.Reply.{reply_bytes}
@@ -97,7 +97,7 @@ module _ (rules : Rules) (w : Wired) where
     unfolding wire_reply
     reply_cut m = ap (λ a. reply_bytes (reply_to m a)) (requested_told_cut (request_of m))
 
-    -- what a settle does of which just the first events were kept
+    -- what a settle does of which just so many events were kept
     abbrev first_events : Wired
     first_events = record w { catalogue = record w.catalogue { state = (try_settle rules w.catalogue.settings 0 (Some n) w.catalogue.state).state } }
 
@@ -167,17 +167,16 @@ module _ {A C : Type 0} (rules : Rules) (catalogue : A → Ledger) (clock : A �
     pub place_is : place new ≡ place old
     pub reply_is : r ≡ reply_to m (Refused Keeper)
 
-  -- of a settle just the first events were kept
+  -- of a settle just the first event was kept
   record IsCut (old new : A) (m : Message) (r : HttpReply) : Type 0 where
-    pub events : ℕ
-    pub state : (catalogue new).state ≡ (try_settle rules (catalogue old).settings (moment (clock new)) (Some events) (catalogue old).state).state
-    pub exact : (try_settle rules (catalogue old).settings (moment (clock new)) (Some events) (catalogue old).state).events ≡ events
+    pub state : (catalogue new).state ≡ (try_settle rules (catalogue old).settings (moment (clock new)) (Some 1) (catalogue old).state).state
+    pub exact : (try_settle rules (catalogue old).settings (moment (clock new)) (Some 1) (catalogue old).state).events ≡ 1
     pub settings : (catalogue new).settings ≡ (catalogue old).settings
     pub counted : refusals new ≡ one_more (refusals old)
     pub moment_is : moment (clock new) ≡ moment (clock old)
     pub feed_is : feed new ≡ feed old
     pub place_is : place new ≡ place old
-    pub reply_is : r ≡ reply_to m (Refused (CutByKeeper events))
+    pub reply_is : r ≡ reply_to m (Refused (CutByKeeper 1))
 
   single_is : (leaves settle : Bool) → leaves ≡ false → settle ≡ false → (not leaves && not settle) ≡ true
   single_is leaves settle a b = λ i. not (a i) && not (b i)
@@ -202,7 +201,6 @@ module _ {A C : Type 0} (rules : Rules) (catalogue : A → Ledger) (clock : A �
         )
         | inr w ↦ inr (
           record {
-            events = w.events;
             state = w.state;
             exact = w.exact;
             settings = w.settings;
@@ -265,22 +263,22 @@ module _ {A C : Type 0} (rules : Rules) (catalogue : A → Ledger) (clock : A �
         let is : seen new ≡ one_refused (seen old).wired (seen old) = λ i. record { wired = record { catalogue = record { settings = u.settings i; state = u.state i }; feed = u.feed_is i }; place = u.place_is i; refusals = u.counted i } in
         is ∙ ap (λ (b : Bool). if b then one_refused (seen old).wired (seen old) else record (seen old) { wired = wire_after rules (seen old).wired plain m }) (sym may)
 
-    -- the state of a settle of which just the first events were kept, at the moment 0
-    first_state : (m : Message) (r : HttpReply) (u : IsCut old new m r) → moment (clock new) ≡ 0 → (catalogue new).state ≡ (try_settle rules (catalogue old).settings 0 (Some u.events) (catalogue old).state).state
-    first_state m r u zero = u.state ∙ ap (λ k. (try_settle rules (catalogue old).settings k (Some u.events) (catalogue old).state).state) zero
+    -- the state of a settle of which just the first event was kept, at the moment 0
+    first_state : (m : Message) (r : HttpReply) (u : IsCut old new m r) → moment (clock new) ≡ 0 → (catalogue new).state ≡ (try_settle rules (catalogue old).settings 0 (Some 1) (catalogue old).state).state
+    first_state m r u zero = u.state ∙ ap (λ k. (try_settle rules (catalogue old).settings k (Some 1) (catalogue old).state).state) zero
 
-    cut_is : (m : Message) (r : HttpReply) (u : IsCut old new m r) → moment (clock new) ≡ 0 → may_be_cut (request_of m) ≡ true → seen new ≡ kept_wire_after rules (seen old) (cut_unkept u.events) m
+    cut_is : (m : Message) (r : HttpReply) (u : IsCut old new m r) → moment (clock new) ≡ 0 → may_be_cut (request_of m) ≡ true → seen new ≡ kept_wire_after rules (seen old) (cut_unkept 1) m
     cut_is m r u zero may =
         let state = first_state m r u zero in
-        let is : seen new ≡ one_refused (first_events rules (seen old).wired u.events) (seen old) = λ i. record { wired = record { catalogue = record { settings = u.settings i; state = state i }; feed = u.feed_is i }; place = u.place_is i; refusals = u.counted i } in
-        is ∙ (ap (λ w. one_refused w (seen old)) (sym (after_first rules (seen old).wired u.events m may))
-        ∙ ap (λ (b : Bool). if b then one_refused (wire_after rules (seen old).wired (cut u.events) m) (seen old) else record (seen old) { wired = wire_after rules (seen old).wired plain m }) (sym may))
+        let is : seen new ≡ one_refused (first_events rules (seen old).wired 1) (seen old) = λ i. record { wired = record { catalogue = record { settings = u.settings i; state = state i }; feed = u.feed_is i }; place = u.place_is i; refusals = u.counted i } in
+        is ∙ (ap (λ w. one_refused w (seen old)) (sym (after_first rules (seen old).wired 1 m may))
+        ∙ ap (λ (b : Bool). if b then one_refused (wire_after rules (seen old).wired (cut 1) m) (seen old) else record (seen old) { wired = wire_after rules (seen old).wired plain m }) (sym may))
 
-    cut_told : (m : Message) (r : HttpReply) (u : IsCut old new m r) → moment (clock new) ≡ 0 → may_be_cut (request_of m) ≡ true → reply_bytes r ≡ kept_wire_reply rules (seen old) (cut_unkept u.events) m
+    cut_told : (m : Message) (r : HttpReply) (u : IsCut old new m r) → moment (clock new) ≡ 0 → may_be_cut (request_of m) ≡ true → reply_bytes r ≡ kept_wire_reply rules (seen old) (cut_unkept 1) m
     cut_told m r u zero may =
-        let exact : u.events ≡ settle_events rules u.events (seen old).wired = sym u.exact ∙ ap (λ k. (try_settle rules (catalogue old).settings k (Some u.events) (catalogue old).state).events) zero in
+        let exact : 1 ≡ settle_events rules (seen old).wired = sym u.exact ∙ ap (λ k. (try_settle rules (catalogue old).settings k (Some 1) (catalogue old).state).events) zero in
         ap reply_bytes u.reply_is ∙ (ap (cut_reply m) exact
-        ∙ ap (λ (b : Bool). if b then cut_reply m (settle_events rules u.events (seen old).wired) else wire_reply rules (seen old).wired plain m) (sym may))
+        ∙ ap (λ (b : Bool). if b then cut_reply m (settle_events rules (seen old).wired) else wire_reply rules (seen old).wired plain m) (sym may))
 
     kept_word : (m : Message) (text : List ℕ) (word : Word) → IsAnswered word → (seen new).wired ≡ wire_after rules (seen old).wired word m → text ≡ wire_reply rules (seen old).wired word m → Stays old new
         → AnswersMessage (kept_wire_after rules) (kept_wire_reply rules) (seen old) m (seen new) text
@@ -313,7 +311,7 @@ module _ {A C : Type 0} (rules : Rules) (catalogue : A → Ledger) (clock : A �
       )
       | inr u ↦ (
           let at = u.0.moment_is ∙ zero in
-          (at, (cut_unkept u.0.events, tt, cut_is old new m h.0 u.0 at u.1, h.2 ∙ cut_told old new m h.0 u.0 at u.1))
+          (at, (cut_unkept 1, tt, cut_is old new m h.0 u.0 at u.1, h.2 ∙ cut_told old new m h.0 u.0 at u.1))
           )
     ]
   ]

@@ -40,7 +40,7 @@ abbrev pub may_be_refused : Result Request Refusal → State → Bool
 may_be_refused (Ok request) m = is_single (operation request) m
 may_be_refused (Err refusal) m = false
 
--- whether an operation is a settle, of which the first events may be kept and the others not
+-- whether an operation is a settle, of which the first event may be kept and the others not
 abbrev pub settles : Operation → Bool
 settles (Act d k) = is_settle d
 settles (Ask q) = false
@@ -56,8 +56,8 @@ abbrev pub one_refused : Wired → KeptWired → KeptWired
 one_refused wired m = record m { wired = wired; refusals = one_more m.refusals }
 
 -- the catalogue after a message: one that wasn't kept, which may change the stored rows and is no settle, is counted and leaves it as it was; of a settle
--- that was cut since what follows its first events wasn't kept, which is counted too, just these stand; and any other does what it does to a catalogue
--- that isn't kept
+-- that was cut since what follows its first event wasn't kept, which is counted too, just this event stands, whatever number the word has; and any other
+-- does what it does to a catalogue that isn't kept
 abbrev pub kept_wire_after : Rules → After KeptWired
 kept_wire_after rules m plain message = record m { wired = wire_after rules m.wired plain message }
 kept_wire_after rules m memory message = record m { wired = wire_after rules m.wired memory message }
@@ -66,25 +66,25 @@ kept_wire_after rules m untold message = record m { wired = wire_after rules m.w
 kept_wire_after rules m unkept message =
     if may_be_refused (request_of message) m.wired.catalogue.state then one_refused m.wired m else record m { wired = wire_after rules m.wired plain message }
 kept_wire_after rules m (cut_unkept n) message =
-    if may_be_cut (request_of message) then one_refused (wire_after rules m.wired (cut n) message) m else record m { wired = wire_after rules m.wired plain message }
+    if may_be_cut (request_of message) then one_refused (wire_after rules m.wired (cut 1) message) m else record m { wired = wire_after rules m.wired plain message }
 
 -- the bytes of the reply to a message whose change wasn't kept: the status 503
 abbrev pub unkept_reply : Message → List ℕ
 unkept_reply message = reply_bytes (reply_to message (Refused Keeper))
 
--- the bytes of the reply to a settle of which just these events were kept: the same status
+-- the bytes of the reply to a settle of which just so many events were kept: the same status
 abbrev pub cut_reply : Message → ℕ → List ℕ
 cut_reply message events = reply_bytes (reply_to message (Refused (CutByKeeper events)))
 
--- how many of the first n events a settle has
-abbrev pub settle_events : Rules → ℕ → Wired → ℕ
-settle_events rules n w = (try_settle rules w.catalogue.settings 0 (Some n) w.catalogue.state).events
+-- how many events stand of a settle of which just the first was kept: one, or none where it has none
+abbrev pub settle_events : Rules → Wired → ℕ
+settle_events rules w = (try_settle rules w.catalogue.settings 0 (Some 1) w.catalogue.state).events
 
--- the bytes of the reply to a message
+-- the bytes of the reply to a message; a settle of which just the first event was kept is answered by its number, whatever number the word has
 abbrev pub kept_wire_reply : Rules → Reply KeptWired
 kept_wire_reply rules m plain message = wire_reply rules m.wired plain message
 kept_wire_reply rules m memory message = wire_reply rules m.wired memory message
 kept_wire_reply rules m (cut n) message = wire_reply rules m.wired (cut n) message
 kept_wire_reply rules m untold message = wire_reply rules m.wired untold message
 kept_wire_reply rules m unkept message = if may_be_refused (request_of message) m.wired.catalogue.state then unkept_reply message else wire_reply rules m.wired plain message
-kept_wire_reply rules m (cut_unkept n) message = if may_be_cut (request_of message) then cut_reply message (settle_events rules n m.wired) else wire_reply rules m.wired plain message
+kept_wire_reply rules m (cut_unkept n) message = if may_be_cut (request_of message) then cut_reply message (settle_events rules m.wired) else wire_reply rules m.wired plain message

@@ -5,7 +5,7 @@ ghost use Rattle.cat_kept_wire.specs.Wire.{kept_wire_after, kept_wire_reply};
 ghost use Rattle.cat_wire.specs.Connection.{Outcome, Transcript};
 ghost use Rattle.cat_wire.specs.Worded.{HasWords};
 
-use cat_api::cat_core::catalogue::{Done, Stitched};
+use cat_api::cat_fed::cat_desk::cat_core::catalogue::{Done, Stitched};
 use cat_api::service::Service;
 use cat_hold::layers::Layers;
 use cat_io::{FixedClock, Sink, Source};
@@ -19,8 +19,8 @@ pub type KeptService<'a, L, K> = Service<Done<'a, L>, Stitched<'a, L>, KeptDesk<
 
 /// Answers the messages of a source by a desk whose catalogue is kept, each before the next is read, up to the one that ends the connection.
 ///
-/// A message whose change the keeper refuses is answered 503 and changes nothing but the count of those; a settle is cut, and its reply says how many of
-/// its events stand. Memory, faults and the bound are as for `cat_wire::connection`.
+/// A message whose change the keeper refuses is answered 503 and changes nothing but the count of those; a settle is cut behind its first event, which
+/// stands, as its reply says. Memory, faults and the bound are as for `cat_wire::connection`.
 pub fn kept_connection<'a, L: Layers, K: Keeper, S: Source, O: Sink>(
     alloc: Global,
     service: &mut KeptService<'a, L, K>,

@@ -1,2 +1,1 @@
 pub use Rattle.cat_model
-pub use Rattle.cat_types

@@ -8,4 +8,3 @@ pub mod theorem;
 
 // What this crate stands on and hands on.
 pub use cat_model;
-pub use cat_types;

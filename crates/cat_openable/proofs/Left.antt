@@ -83,7 +83,7 @@ module _ (place : Place) where
       go false = h
   stays k (cut_unkept n) line h = go (may_be_cut (line_of line))
     where
-      go : (b : Bool) → StaysAt (if b then one_refused (ruled_after layered k.ruled (cut n) line) k else record k { ruled = ruled_after layered k.ruled plain line })
+      go : (b : Bool) → StaysAt (if b then one_refused (ruled_after layered k.ruled (cut 1) line) k else record k { ruled = ruled_after layered k.ruled plain line })
       go true = h
       go false = h
 
@@ -151,7 +151,7 @@ module _ (place : Place) where
       go false = h
   message_stays k (wire.cut_unkept n) m h = go (kept_wire.may_be_cut (request_of m))
     where
-      go : (b : Bool) → WiredAt (if b then kept_wire.one_refused (wire_after layered k.wired (wire.cut n) m) k else record k { wired = wire_after layered k.wired wire.plain m })
+      go : (b : Bool) → WiredAt (if b then kept_wire.one_refused (wire_after layered k.wired (wire.cut 1) m) k else record k { wired = wire_after layered k.wired wire.plain m })
       go true = h
       go false = h
 

@@ -84,8 +84,8 @@ keeps m unkept line h = go (may_be_refused (line_of line))
     go false = line_lasts m.ruled.orphans m.ruled.session plain line h
 keeps m (cut_unkept n) line h = go (may_be_cut (line_of line))
   where
-    go : (b : Bool) → KeptLasts (if b then one_refused (ruled_after layered m.ruled (cut n) line) m else record m { ruled = ruled_after layered m.ruled plain line })
-    go true = line_lasts m.ruled.orphans m.ruled.session (cut n) line h
+    go : (b : Bool) → KeptLasts (if b then one_refused (ruled_after layered m.ruled (cut 1) line) m else record m { ruled = ruled_after layered m.ruled plain line })
+    go true = line_lasts m.ruled.orphans m.ruled.session (cut 1) line h
     go false = line_lasts m.ruled.orphans m.ruled.session plain line h
 
 pub lines_last : (m : KeptState) (lines : List (List ℕ)) (words : List Word) → KeptLasts m → KeptLasts (after_lines (kept_after layered) m lines words)

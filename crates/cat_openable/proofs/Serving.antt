@@ -89,8 +89,8 @@ module _ (rule : OrphanRule) where
       go false = message_serves k.wired plain m h
   kept_serves k (cut_unkept n) m h = go (may_be_cut (request_of m))
     where
-      go : (b : Bool) → KeptServes (if b then one_refused (wire_after layered k.wired (cut n) m) k else record k { wired = wire_after layered k.wired plain m })
-      go true = message_serves k.wired (cut n) m h
+      go : (b : Bool) → KeptServes (if b then one_refused (wire_after layered k.wired (cut 1) m) k else record k { wired = wire_after layered k.wired plain m })
+      go true = message_serves k.wired (cut 1) m h
       go false = message_serves k.wired plain m h
 
   item_serves : (k : KeptWired) (w : Word) (item : Item) → KeptServes k → KeptServes (item_after (kept_wire_after layered) k w item)

@@ -1,2 +1,2 @@
 pub mod Reach
-pub use Rattle.cat_holding.specs.cat_laws
+pub mod Gathered

@@ -7,6 +7,3 @@
 #![tactic(auto)]
 
 pub mod theorem;
-
-// What this crate stands on and hands on.
-pub use cat_holding::cat_laws;

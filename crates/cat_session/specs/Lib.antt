@@ -1,5 +1,4 @@
 pub mod Replies
 pub mod Carried
-pub use Rattle.cat_desk.specs.cat_core
 pub use Rattle.cat_desk
 pub use Rattle.cat_replies

@@ -14,5 +14,4 @@ pub use session::Session;
 
 // What this crate stands on and hands on.
 pub use cat_desk;
-pub use cat_desk::cat_core;
 pub use cat_replies;

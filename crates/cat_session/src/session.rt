@@ -5,6 +5,7 @@ ghost use Rattle.std.specs.FinMap.Entries.{is_sorted};
 ghost use Rattle.cat_commands.specs.declared.line.Line.TheVariants as asks;
 ghost use Rattle.cat_commands.specs.Ready.{IsReady};
 ghost use Rattle.cat_desk.specs.Deed.{Deed, deed_of};
+ghost use Rattle.cat_desk.specs.cat_core.specs.cat_settle.specs.cat_reach.specs.Gathered.{IsWithin};
 ghost use Rattle.cat_loop.specs.Word.{AnswersLine, cut};
 ghost use Rattle.cat_model.specs.Settle.{try_settle};
 ghost use Rattle.cat_model.specs.Sound.{AreSmall, Sound};
@@ -32,6 +33,7 @@ use cat_model::types::{Order, OrphanRule, Settings, State, StitchOrder};
 use cat_query::ask::Ask;
 use cat_ref::reference::Ref;
 use cat_replies::events::push_changed;
+use cat_table::listing::Listing;
 use cat_table::map::Map;
 use std::alloc::{AllocError, Global};
 use std::marker::Model;
@@ -86,6 +88,22 @@ fn act<L: Layers>(
     let reply = desk.act(alloc, command);
     push_reply(&mut out, &reply)?;
     Ok(out)
+}
+
+// Settles, and gives the reply as a line with what was reached. The room for the line is taken first.
+fn settle<L: Layers>(
+    alloc: Global,
+    desk: &mut Timed<L, FixedClock>,
+) -> Result<(Vec<u8>, Option<Listing<Ref>>), AllocError>
+    ensures ok { IfOk result (λ x. CarriesDeed L.rules desk.old.clock.moment Deed.Settle desk.old.catalogue desk.new.catalogue x.0.items) }
+    ensures reaches { IfOk result (λ x. IsWithin x.1 desk.old.catalogue.state desk.new.catalogue.state) }
+    ensures err { OnErr result (Stays desk.old.catalogue desk.new.catalogue) }
+    ensures clock { desk.new.clock.moment ≡ desk.old.clock.moment }
+{
+    let mut out = Vec::with_capacity(alloc, ROOM)?;
+    let (reply, gathered) = desk.settle_reaching(alloc);
+    push_reply(&mut out, &reply)?;
+    Ok((out, gathered))
 }
 
 // The reference of the record that the next take leases.
@@ -209,8 +227,20 @@ impl<L: Layers> Session<L> {
         ensures most { result ≤ most }
         ensures state { self.new ≡ record self.old { session = after_reading L.rules (program_settings self.old.orphans) (cut result) asks.Settle self.old.session } }
         ensures events { (try_settle L.rules (program_settings self.old.orphans) self.old.session.now (Some result) self.old.session.state).events ≡ result }
+        // Where none stands, nothing has changed.
+        ensures none { result ≡ 0 → self.new ≡ self.old }
     {
         self.desk.settle_within(self.alloc, most)
+    }
+
+    /// Carries out the line `settle`, and gives the reply with the references that it reached, where they were gathered. The only error is want of memory: the
+    /// session is then as before.
+    pub fn settle_reaching(&mut self) -> Result<(Vec<u8>, Option<Listing<Ref>>), AllocError>
+        ensures ok { IfOk result (λ x. Carries L.rules asks.Settle self.old self.new x.0.items) }
+        ensures reaches { IfOk result (λ x. IsWithin x.1 self.old.session.state self.new.session.state) }
+        ensures err { OnErr result (self.new ≡ self.old) }
+    {
+        settle(self.alloc, &mut self.desk)
     }
 
     /// The reply to a line that is no command. The only error is want of memory.

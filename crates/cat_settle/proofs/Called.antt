@@ -19,8 +19,8 @@ use Rattle.cat_model.specs.Settle.{try_event}
 use Rattle.cat_model.specs.Sound.{AreOrdered, AreSmall, Sound}
 use Rattle.cat_model.specs.Step.{Event, change, leased, refusal, step, take}
 use Rattle.cat_model.specs.Step.Event.{TakeAt}
-use Rattle.cat_events.specs.cat_laws.proofs.Ordered.{step_ordered}
-use Rattle.cat_events.specs.cat_laws.proofs.Steps.{run_kept, step_small}
+use Rattle.cat_events.specs.cat_frame.specs.cat_laws.proofs.Ordered.{step_ordered}
+use Rattle.cat_events.specs.cat_frame.specs.cat_laws.proofs.Steps.{run_kept, step_small}
 use Rattle.cat_events.specs.Coming.{IsSteady, came_fault, came_state}
 use Rattle.cat_events.specs.Stepped.{come_to, stepped}
 use Rattle.cat_events.specs.declared.stepped.Stepped.{Stepped}
@@ -47,7 +47,7 @@ pub noted_steady : (rules : Rules) (links : Emitted) (e : Event) (came : Option 
 noted_steady rules links e came p q n is h = subst (IsSteady rules links) (sym (ap (λ (x : Progress). x.state) is ∙ noted_state e came (record p { state = n }))) h
 
 -- the state that an event moves a progress to
-moved_state : (e : Event) (c : Stepped) (p : Progress) → (moved e c p).state ≡ came_state c p.state
+pub moved_state : (e : Event) (c : Stepped) (p : Progress) → (moved e c p).state ≡ came_state c p.state
 moved_state e (Acts n) p = refl
 moved_state e (Refused fault) p = refl
 
@@ -68,7 +68,7 @@ module _ (rules : Rules) (s : Settings) (e : Event) (p q : Progress) (none : is_
 
 module _ (rules : Rules) (s : Settings) where
   -- the state that an event comes to is that of its step
-  came_step : (e : Event) (m : State) → came_state (come_to rules s e m) m ≡ step rules s e m
+  pub came_step : (e : Event) (m : State) → came_state (come_to rules s e m) m ≡ step rules s e m
   unfolding step
   came_step e m = go (refusal rules s e m)
     where

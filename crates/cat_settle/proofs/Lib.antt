@@ -5,3 +5,4 @@ pub mod Sorted
 pub mod Moves
 pub mod Whole
 pub mod Held
+pub mod Gathering

@@ -1,5 +1,3 @@
 pub mod Part
 pub use Rattle.cat_events
-pub use Rattle.cat_events.specs.cat_frame
-pub use Rattle.cat_events.specs.cat_hold
-pub use Rattle.cat_events.specs.cat_laws
+pub use Rattle.cat_reached.specs.cat_reach

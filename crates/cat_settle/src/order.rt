@@ -10,9 +10,9 @@ ghost use Rattle.cat_model.specs.Step.Event.{Finish, PutStitch, TakeAt};
 ghost use Rattle.cat_events.specs.cat_frame.specs.Linked.{AreLinked, AreRecorded};
 ghost use Rattle.cat_settle.specs.Part.{noted};
 
+use cat_events::cat_frame::cat_hold::layers::Layers;
+use cat_events::cat_frame::cat_hold::parts::work_of;
 use cat_events::cat_frame::parts::present_parts;
-use cat_events::cat_hold::layers::Layers;
-use cat_events::cat_hold::parts::work_of;
 use cat_links::links::Links;
 use cat_model::types::{Fault, Lease, Order, Progress, Record, State, StitchOrder, Stop};
 use cat_ref::reference::Ref;

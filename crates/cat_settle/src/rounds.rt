@@ -3,11 +3,12 @@ ghost use Rattle.std.specs.Prelude.{◌≡◌, ◌≤◌, false, IfOk, IfErr, �
 ghost use Rattle.cat_model.specs.Settle.{begun_round, due_refs, is_ended, try_round};
 ghost use Rattle.cat_events.specs.Coming.{IsSteady};
 ghost use Rattle.cat_events.specs.Stepped.{AreMoments};
+ghost use Rattle.cat_reached.specs.cat_reach.specs.Gathered.{Gathers};
 ghost use Rattle.cat_settle.specs.Part.{Came, CameRounds, Goes};
 
 use crate::order::counted;
 use crate::turn::all_turned;
-use cat_events::cat_hold::layers::Layers;
+use cat_events::cat_frame::cat_hold::layers::Layers;
 use cat_links::links::Links;
 use cat_model::types::{Progress, Settings};
 use cat_ref::reference::Ref;
@@ -24,6 +25,7 @@ fn one_round<L: Layers>(
     refs: &Listing<Ref>,
     p: &mut Progress,
     links: &mut Links,
+    reached: &mut Option<Listing<Ref>>,
 ) -> Result<(), AllocError>
     requires steady { IsSteady L.rules links.old p.old.state }
     requires moments { AreMoments settings.now now }
@@ -33,6 +35,7 @@ fn one_round<L: Layers>(
     ensures steady { IsSteady L.rules links.new p.new.state }
     ensures goes { Goes L.rules p.old p.new }
     ensures within { p.old.events ≤ most → p.new.events ≤ most }
+    ensures gathers { Gathers reached.old p.old.state reached.new p.new.state }
 {
     p.rounds = counted(p.rounds);
     all_turned(
@@ -44,6 +47,7 @@ fn one_round<L: Layers>(
         refs.as_slice(),
         p,
         links,
+        reached,
     )
 }
 
@@ -56,6 +60,7 @@ pub fn all_rounds<L: Layers>(
     now: u64,
     p: &mut Progress,
     links: &mut Links,
+    reached: &mut Option<Listing<Ref>>,
 ) -> Result<(), AllocError>
     requires steady { IsSteady L.rules links.old p.old.state }
     requires moments { AreMoments settings.now now }
@@ -63,6 +68,7 @@ pub fn all_rounds<L: Layers>(
     ensures steady { IsSteady L.rules links.new p.new.state }
     ensures goes { Goes L.rules p.old p.new }
     ensures within { p.old.events ≤ most → p.new.events ≤ most }
+    ensures gathers { Gathers reached.old p.old.state reached.new p.new.state }
 {
     'rounds: loop {
         match p.state.records.due(alloc, now) {
@@ -70,7 +76,7 @@ pub fn all_rounds<L: Layers>(
                 if p.stop.is_some() || refs.len() == 0 {
                     return Ok(());
                 }
-                match one_round(alloc, layers, settings, most, now, &refs, p, links) {
+                match one_round(alloc, layers, settings, most, now, &refs, p, links, reached) {
                     Ok(()) => {}
                     Err(refused) => return Err(refused),
                 }

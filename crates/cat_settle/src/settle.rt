@@ -3,18 +3,22 @@ ghost use Rattle.std.specs.Prelude.{◌≡◌, ◌≤◌, ℕ, Option};
 ghost use Rattle.cat_model.specs.Settle.{not_begun, try_settle};
 ghost use Rattle.cat_events.specs.Coming.{IsSteady};
 ghost use Rattle.cat_events.specs.Stepped.{AreMoments};
+ghost use Rattle.cat_reached.specs.cat_reach.specs.Gathered.{Gathers};
 ghost use Rattle.cat_settle.specs.Part.{Came, Goes};
 
 use crate::rounds::all_rounds;
 use crate::stitches::all_marks;
-use cat_events::cat_hold::layers::Layers;
+use cat_events::cat_frame::cat_hold::layers::Layers;
 use cat_links::links::Links;
 use cat_model::types::{Progress, Settings};
+use cat_ref::reference::Ref;
+use cat_table::listing::Listing;
 use std::alloc::{AllocError, Global};
 
 /// Settles the state of a progress that is not begun: rounds until none is due, and then the stitches. Where it stops at a
 /// refusal, the progress says so; where memory runs out, or before the event after `most`, exactly the events that the progress counts stand. The
-/// links are those of the state, before and after.
+/// links are those of the state, before and after. Where references are gathered, those that its events reached are put behind them; where memory
+/// lacks for these, or they are many, none are gathered from then on.
 pub fn settled<L: Layers>(
     alloc: Global,
     layers: &L,
@@ -23,6 +27,7 @@ pub fn settled<L: Layers>(
     now: u64,
     p: &mut Progress,
     links: &mut Links,
+    reached: &mut Option<Listing<Ref>>,
 ) -> Result<(), AllocError>
     requires steady { IsSteady L.rules links.old p.old.state }
     requires moments { AreMoments settings.now now }
@@ -32,8 +37,9 @@ pub fn settled<L: Layers>(
     ensures steady { IsSteady L.rules links.new p.new.state }
     ensures goes { Goes L.rules p.old p.new }
     ensures within { p.old.events ≤ most → p.new.events ≤ most }
+    ensures gathers { Gathers reached.old p.old.state reached.new p.new.state }
 {
-    match all_rounds(alloc, layers, settings, most, now, p, links) {
+    match all_rounds(alloc, layers, settings, most, now, p, links, reached) {
         Ok(()) => all_marks(alloc, layers, settings, most, p, links),
         Err(refused) => Err(refused),
     }

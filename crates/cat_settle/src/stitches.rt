@@ -1,14 +1,16 @@
 //! The stitches at the end of a settle, in order of ticket.
-ghost use Rattle.std.specs.Prelude.{◌≡◌, ◌≤◌, IfOk, IfErr, ℕ, List, Option};
+ghost use Rattle.std.specs.Prelude.{◌≡◌, ◌≤◌, [], IfOk, IfErr, ℕ, List, Option};
+ghost use Rattle.std.specs.declared.option.Option.TheVariants.{Some};
 ghost use Rattle.cat_table.specs.Table.{get, keys};
 ghost use Rattle.cat_model.specs.Settle.{by_ticket, mark_order, marks_in_order, try_event, try_marks, try_stitch_with, try_stitches};
 ghost use Rattle.cat_model.specs.Step.Event.{PutStitch};
 ghost use Rattle.cat_events.specs.Coming.{IsSteady};
 ghost use Rattle.cat_events.specs.Stepped.{come_to};
+ghost use Rattle.cat_reached.specs.cat_reach.specs.Gathered.{IsWithin};
 ghost use Rattle.cat_settle.specs.Part.{Came, Goes, moved_in};
 
 use crate::order::{stitch_noted, stitch_order_of};
-use cat_events::cat_hold::layers::Layers;
+use cat_events::cat_frame::cat_hold::layers::Layers;
 use cat_events::done::Stitched;
 use cat_events::stitch::put_stitch;
 use cat_links::links::Links;
@@ -96,6 +98,7 @@ fn stitch_tried<L: Layers>(
     ensures steady { IsSteady L.rules links.now p.new.state }
     ensures goes { Goes L.rules p.old p.new }
     ensures within { p.old.events ≤ most → p.new.events ≤ most }
+    ensures still { IsWithin (Some []) p.old.state p.new.state }
 {
     if p.stop.is_some() {
         return Ok(());
@@ -121,6 +124,7 @@ fn given_stitched<L: Layers>(
     ensures steady { IsSteady L.rules links.now p.new.state }
     ensures goes { Goes L.rules p.old p.new }
     ensures within { p.old.events ≤ most → p.new.events ≤ most }
+    ensures still { IsWithin (Some []) p.old.state p.new.state }
 {
     match given {
         Some(order) => stitch_tried(alloc, layers, settings, most, &order, p, links),
@@ -143,6 +147,7 @@ fn mark_tried<L: Layers>(
     ensures steady { IsSteady L.rules links.now p.new.state }
     ensures goes { Goes L.rules p.old p.new }
     ensures within { p.old.events ≤ most → p.new.events ≤ most }
+    ensures still { IsWithin (Some []) p.old.state p.new.state }
 {
     match stitch_order_of(alloc, layers, &p.state, reference, links) {
         Ok(given) => given_stitched(alloc, layers, settings, most, given, p, links),
@@ -164,6 +169,7 @@ fn all_stitched<L: Layers>(
     ensures steady { IsSteady L.rules links.now p.new.state }
     ensures goes { Goes L.rules p.old p.new }
     ensures within { p.old.events ≤ most → p.new.events ≤ most }
+    ensures still { IsWithin (Some []) p.old.state p.new.state }
 {
     for reference in refs {
         match mark_tried(alloc, layers, settings, most, reference, p, links) {
@@ -188,6 +194,7 @@ pub fn all_marks<L: Layers>(
     ensures steady { IsSteady L.rules links.now p.new.state }
     ensures goes { Goes L.rules p.old p.new }
     ensures within { p.old.events ≤ most → p.new.events ≤ most }
+    ensures still { IsWithin (Some []) p.old.state p.new.state }
 {
     match marked_refs(alloc, &p.state.marks) {
         Ok(refs) => all_stitched(alloc, layers, settings, most, refs.as_slice(), p, links),

@@ -1,5 +1,6 @@
 //! A turn: a record that is due is taken, whatever lease it has, and finished.
-ghost use Rattle.std.specs.Prelude.{◌≡◌, ◌≤◌, IfOk, IfErr, ℕ, Option, Bool};
+ghost use Rattle.std.specs.Prelude.{◌≡◌, ◌≤◌, [], IfOk, IfErr, ℕ, Option, Bool};
+ghost use Rattle.std.specs.declared.option.Option.TheVariants.{Some};
 ghost use Rattle.cat_table.specs.Table.{get, keys};
 ghost use Rattle.cat_links.specs.Links.{Emitted};
 ghost use Rattle.cat_model.specs.Settle.{is_due, order, try_event, try_finish, try_take_and_finish, try_turn, try_turns};
@@ -7,16 +8,19 @@ ghost use Rattle.cat_model.specs.Sound.{AreSmall, Sound};
 ghost use Rattle.cat_model.specs.Step.Event.{Finish, TakeAt};
 ghost use Rattle.cat_events.specs.Coming.{IsSteady};
 ghost use Rattle.cat_events.specs.Stepped.{come_to, AreMoments};
+ghost use Rattle.cat_reached.specs.cat_reach.specs.Gathered.{Gathers, IsWithin};
 ghost use Rattle.cat_settle.specs.Part.{Came, Goes, moved, moved_in};
 
 use crate::order::{due, finish_noted, lease_noted, order_of};
-use cat_events::cat_hold::layers::Layers;
+use crate::reaching::{gathered, rows_before};
+use cat_events::cat_frame::cat_hold::layers::Layers;
 use cat_events::done::Done;
 use cat_events::finish::finish;
 use cat_events::lease::take_at;
 use cat_links::links::Links;
 use cat_model::types::{Order, Progress, Settings};
 use cat_ref::reference::Ref;
+use cat_table::listing::Listing;
 use std::alloc::{AllocError, Global};
 
 // A record is taken, which is counted or stops the settle. The links are as before.
@@ -46,6 +50,7 @@ fn take_tried<L: Layers>(
     ensures steady { (links : Emitted) → IsSteady L.rules links p.old.state → IsSteady L.rules links p.new.state }
     ensures goes { Goes L.rules p.old p.new }
     ensures within { p.old.events ≤ most → p.new.events ≤ most }
+    ensures still { IsWithin (Some []) p.old.state p.new.state }
 {
     if p.stop.is_some() {
         return Ok(());
@@ -84,6 +89,29 @@ fn finished<L: Layers>(
     }
 }
 
+// The same, and what it reached is gathered.
+fn finished_and_gathered<L: Layers>(
+    alloc: Global,
+    layers: &L,
+    settings: &Settings,
+    now: u64,
+    order: &Order,
+    p: &mut Progress,
+    links: &mut Links,
+    reached: &mut Option<Listing<Ref>>,
+) -> Result<(), AllocError>
+    requires steady { IsSteady L.rules links.old p.old.state }
+    requires moments { AreMoments settings.now now }
+    ensures moved { p.new ≡ moved_in result (Finish order.now now) (come_to L.rules settings.now (Finish order.now now) p.old.state) p.old }
+    ensures steady { IsSteady L.rules links.new p.new.state }
+    ensures gathers { Gathers reached.old p.old.state reached.new p.new.state }
+{
+    let before = rows_before(reached, &p.state);
+    let came = finished(alloc, layers, settings, now, order, p, links);
+    *reached = gathered(alloc, reached.take(), &before, &order.reference, &p.state);
+    came
+}
+
 fn finish_tried<L: Layers>(
     alloc: Global,
     layers: &L,
@@ -93,6 +121,7 @@ fn finish_tried<L: Layers>(
     order: &Order,
     p: &mut Progress,
     links: &mut Links,
+    reached: &mut Option<Listing<Ref>>,
 ) -> Result<(), AllocError>
     requires steady { IsSteady L.rules links.old p.old.state }
     requires moments { AreMoments settings.now now }
@@ -100,6 +129,7 @@ fn finish_tried<L: Layers>(
     ensures steady { IsSteady L.rules links.new p.new.state }
     ensures goes { Goes L.rules p.old p.new }
     ensures within { p.old.events ≤ most → p.new.events ≤ most }
+    ensures gathers { Gathers reached.old p.old.state reached.new p.new.state }
 {
     if p.stop.is_some() {
         return Ok(());
@@ -107,7 +137,7 @@ fn finish_tried<L: Layers>(
     if p.events >= most {
         return Err(AllocError);
     }
-    finished(alloc, layers, settings, now, order, p, links)
+    finished_and_gathered(alloc, layers, settings, now, order, p, links, reached)
 }
 
 // An order is finished, if there is one.
@@ -120,6 +150,7 @@ fn given_tried<L: Layers>(
     given: Option<Order>,
     p: &mut Progress,
     links: &mut Links,
+    reached: &mut Option<Listing<Ref>>,
 ) -> Result<(), AllocError>
     requires steady { IsSteady L.rules links.old p.old.state }
     requires moments { AreMoments settings.now now }
@@ -127,9 +158,12 @@ fn given_tried<L: Layers>(
     ensures steady { IsSteady L.rules links.new p.new.state }
     ensures goes { Goes L.rules p.old p.new }
     ensures within { p.old.events ≤ most → p.new.events ≤ most }
+    ensures gathers { Gathers reached.old p.old.state reached.new p.new.state }
 {
     match given {
-        Some(order) => finish_tried(alloc, layers, settings, most, now, &order, p, links),
+        Some(order) => finish_tried(
+            alloc, layers, settings, most, now, &order, p, links, reached,
+        ),
         None => Ok(()),
     }
 }
@@ -144,6 +178,7 @@ fn order_tried<L: Layers>(
     reference: &Ref,
     p: &mut Progress,
     links: &mut Links,
+    reached: &mut Option<Listing<Ref>>,
 ) -> Result<(), AllocError>
     requires steady { IsSteady L.rules links.old p.old.state }
     requires moments { AreMoments settings.now now }
@@ -151,9 +186,10 @@ fn order_tried<L: Layers>(
     ensures steady { IsSteady L.rules links.new p.new.state }
     ensures goes { Goes L.rules p.old p.new }
     ensures within { p.old.events ≤ most → p.new.events ≤ most }
+    ensures gathers { Gathers reached.old p.old.state reached.new p.new.state }
 {
     match order_of(alloc, layers, &p.state, reference) {
-        Ok(given) => given_tried(alloc, layers, settings, most, now, given, p, links),
+        Ok(given) => given_tried(alloc, layers, settings, most, now, given, p, links, reached),
         Err(refused) => Err(refused),
     }
 }
@@ -167,6 +203,7 @@ fn taken_and_finished<L: Layers>(
     reference: &Ref,
     p: &mut Progress,
     links: &mut Links,
+    reached: &mut Option<Listing<Ref>>,
 ) -> Result<(), AllocError>
     requires steady { IsSteady L.rules links.old p.old.state }
     requires moments { AreMoments settings.now now }
@@ -174,9 +211,12 @@ fn taken_and_finished<L: Layers>(
     ensures steady { IsSteady L.rules links.new p.new.state }
     ensures goes { Goes L.rules p.old p.new }
     ensures within { p.old.events ≤ most → p.new.events ≤ most }
+    ensures gathers { Gathers reached.old p.old.state reached.new p.new.state }
 {
     match take_tried(alloc, layers, settings, most, now, reference, p) {
-        Ok(()) => order_tried(alloc, layers, settings, most, now, reference, p, links),
+        Ok(()) => order_tried(
+            alloc, layers, settings, most, now, reference, p, links, reached,
+        ),
         Err(refused) => Err(refused),
     }
 }
@@ -190,6 +230,7 @@ fn turned<L: Layers>(
     reference: &Ref,
     p: &mut Progress,
     links: &mut Links,
+    reached: &mut Option<Listing<Ref>>,
 ) -> Result<(), AllocError>
     requires steady { IsSteady L.rules links.old p.old.state }
     requires moments { AreMoments settings.now now }
@@ -197,9 +238,12 @@ fn turned<L: Layers>(
     ensures steady { IsSteady L.rules links.new p.new.state }
     ensures goes { Goes L.rules p.old p.new }
     ensures within { p.old.events ≤ most → p.new.events ≤ most }
+    ensures gathers { Gathers reached.old p.old.state reached.new p.new.state }
 {
     if due(now, p.state.records.get(reference)) {
-        taken_and_finished(alloc, layers, settings, most, now, reference, p, links)
+        taken_and_finished(
+            alloc, layers, settings, most, now, reference, p, links, reached,
+        )
     } else {
         Ok(())
     }
@@ -215,6 +259,7 @@ pub fn all_turned<L: Layers>(
     refs: &[Ref],
     p: &mut Progress,
     links: &mut Links,
+    reached: &mut Option<Listing<Ref>>,
 ) -> Result<(), AllocError>
     requires steady { IsSteady L.rules links.old p.old.state }
     requires moments { AreMoments settings.now now }
@@ -222,9 +267,12 @@ pub fn all_turned<L: Layers>(
     ensures steady { IsSteady L.rules links.new p.new.state }
     ensures goes { Goes L.rules p.old p.new }
     ensures within { p.old.events ≤ most → p.new.events ≤ most }
+    ensures gathers { Gathers reached.old p.old.state reached.new p.new.state }
 {
     for reference in refs {
-        match turned(alloc, layers, settings, most, now, reference, p, links) {
+        match turned(
+            alloc, layers, settings, most, now, reference, p, links, reached,
+        ) {
             Ok(()) => {}
             Err(refused) => return Err(refused),
         }

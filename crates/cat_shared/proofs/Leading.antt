@@ -50,14 +50,14 @@ use Rattle.cat_types.specs.declared.work.Outcome.TheVariants.{Good, Bad}
 use Rattle.cat_shared.proofs.Present.{finish_present, stitch_present}
 use Rattle.cat_shared.proofs.Standing.{none_counted, none_stands, settle_unlimited}
 
-pub same_self : (k : ℕ) → nat_eq k k ≡ true
+same_self : (k : ℕ) → nat_eq k k ≡ true
 same_self k = grind (arith, nat_tests)
 
 none_below : (k : ℕ) → nat_lt 0 k ≡ false → k ≡ 0
 none_below k h = grind (arith, nat_tests)
 
 -- how many events a reply says that they stand
-abbrev pub cut_events : Reply → ℕ
+abbrev cut_events : Reply → ℕ
 cut_events (replies.Cut short) = short.events
 cut_events _ = 0
 

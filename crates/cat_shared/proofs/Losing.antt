@@ -20,7 +20,6 @@ use Rattle.cat_shared.specs.Notes.{IsLossOf, IsNoted, is_noted, lost_in, unkept_
 use Rattle.cat_shared.specs.Replay.{led}
 use Rattle.cat_shared.specs.declared.entry.Noted.{Noted}
 use Rattle.cat_shared.specs.declared.entry.Noted.TheVariants as notes
-use Rattle.cat_shared.proofs.Leading.{cut_events, same_self}
 
 -- a refused deed is no settle that was cut
 never_both : {A : Type 0} (reply : Reply) (k : ℕ) → reply ≡ replies.Refused Keeper → reply ≡ replies.Cut (record { events = k; fault = Keeper }) → A
@@ -45,11 +44,10 @@ module _ (rules : Rules) where
   unfolding led
   none_leads s m n same = ap Some (sym same)
 
-  -- the first events of a settle lead to the state after them
-  first_lead : (s : Settings) (now k : ℕ) (m n : State) → (try_settle rules s now (Some k) m).events ≡ k → n ≡ done rules s now (Some k) Settle m → led rules s (notes.CutUnkept now k) m ≡ Some n
+  -- the first event of a settle leads to the state after it
+  first_lead : (s : Settings) (now : ℕ) (m n : State) → (try_settle rules s now (Some 1) m).events ≡ 1 → n ≡ done rules s now (Some 1) Settle m → led rules s (notes.CutUnkept now 1) m ≡ Some n
   unfolding led
-  first_lead s now k m n exact state =
-      ap (λ b. cond b (Some (done rules s now (Some k) Settle m)) None) (ap (λ e. nat_eq e k) exact ∙ same_self k) ∙ ap Some (sym state)
+  first_lead s now m n exact state = ap (λ b. cond b (Some (done rules s now (Some 1) Settle m)) None) (ap (λ e. nat_eq e 1) exact) ∙ ap Some (sym state)
 
   module _ (now : ℕ) (d : Deed) (old new : Ledger) (reply : Reply) where
     -- a deed whose reply doesn't say otherwise was done
@@ -70,16 +68,16 @@ module _ (rules : Rules) where
     -- what holds before it holds after it
     pub loss_sound : IsLost rules now d old new reply → Sound rules old.state → Sound rules new.state
     loss_sound (inl none) sound = subst (Sound rules) (sym none.state) sound
-    loss_sound (inr part) sound = subst (Sound rules) (sym part.state) ((settle_keeps rules old.settings now (Some part.events) old.state).sound sound)
+    loss_sound (inr part) sound = subst (Sound rules) (sym part.state) ((settle_keeps rules old.settings now (Some 1) old.state).sound sound)
 
     -- what is noted of it is of it
     pub loss_note : IsLost rules now d old new reply → IsLossOf now d reply (unkept_note now reply)
     loss_note (inl none) = subst (λ r. IsLossOf now d r (unkept_note now r)) (sym none.answer) refl
-    loss_note (inr part) = subst (λ r. IsLossOf now d r (unkept_note now r)) (sym part.answer) (part.settles, refl, refl)
+    loss_note (inr part) = subst (λ r. IsLossOf now d r (unkept_note now r)) (sym part.answer) (part.settles, refl, refl, refl)
 
     none_noted : IsUnkept d old new reply → (x : Noted) → IsLossOf now d reply x → led rules old.settings x old.state ≡ Some new.state
     none_noted none notes.Unkept is = none_leads old.settings old.state new.state none.state
-    none_noted none (notes.CutUnkept moment events) is = never_both reply events none.answer is.2
+    none_noted none (notes.CutUnkept moment events) is = never_both reply 1 none.answer is.3
     none_noted none (notes.Acted input said) is = absurd is
     none_noted none (notes.Taken moment) is = absurd is
     none_noted none (notes.Finished r token moment) is = absurd is
@@ -88,10 +86,9 @@ module _ (rules : Rules) where
     none_noted none (notes.Cut moment events) is = absurd is
 
     part_noted : IsCutUnkept rules now d old new reply → (x : Noted) → IsLossOf now d reply x → led rules old.settings x old.state ≡ Some new.state
-    part_noted part notes.Unkept is = never_both reply part.events is part.answer
+    part_noted part notes.Unkept is = never_both reply 1 is part.answer
     part_noted part (notes.CutUnkept moment events) is =
-        let same : events ≡ part.events = ap cut_events (sym is.2 ∙ part.answer) in
-        (λ i. led rules old.settings (notes.CutUnkept (is.1 i) (same i)) old.state) ∙ first_lead old.settings now part.events old.state new.state part.exact part.state
+        (λ i. led rules old.settings (notes.CutUnkept (is.1 i) (is.2 i)) old.state) ∙ first_lead old.settings now old.state new.state part.exact part.state
     part_noted part (notes.Acted input said) is = absurd is
     part_noted part (notes.Taken moment) is = absurd is
     part_noted part (notes.Finished r token moment) is = absurd is

@@ -25,7 +25,7 @@ abbrev pub lacking : Deed → Reply
 lacking Settle = replies.Cut (record { events = 0; fault = NoMemory })
 lacking _ = replies.Refused NoMemory
 
--- A deed was done to a catalogue at this moment, or it wasn't kept, or of a settle just the first events were; what is to be noted of it stands at
+-- A deed was done to a catalogue at this moment, or it wasn't kept, or of a settle just the first event was; what is to be noted of it stands at
 -- the end of the journal, under the pass.
 pub record Does (rules : Rules) (pass now : ℕ) (d : Deed) (old new : Ledger) (before after : List Entry) (reply : Reply) : Type 0 where
   pub acts : Acts rules now d old new reply ⊎ IsLost rules now d old new reply

@@ -109,11 +109,11 @@ IsNoteOf now d reply (notes.Cut moment events) = (d ≡ Settle) × (moment ≡ n
 IsNoteOf now d reply notes.Unkept = ⊥
 IsNoteOf now d reply (notes.CutUnkept moment events) = ⊥
 
--- A note is of a deed that wasn't kept and was answered so at this moment: all was as before it, or it is a settle, of which just the first events
--- stand.
+-- A note is of a deed that wasn't kept and was answered so at this moment: all was as before it, or it is a settle, of which just the first event
+-- stands.
 abbrev pub IsLossOf : ℕ → Deed → Reply → Noted → Type 0
 IsLossOf now d reply notes.Unkept = reply ≡ replies.Refused Keeper
-IsLossOf now d reply (notes.CutUnkept moment events) = (d ≡ Settle) × (moment ≡ now) × (reply ≡ replies.Cut (record { events = events; fault = Keeper }))
+IsLossOf now d reply (notes.CutUnkept moment events) = (d ≡ Settle) × (moment ≡ now) × (events ≡ 1) × (reply ≡ replies.Cut (record { events = 1; fault = Keeper }))
 IsLossOf now d reply _ = ⊥
 
 -- What is noted of a deed that was answered so at this moment: just what its reply says is to be noted, and that it or the rest of it wasn't kept

@@ -37,8 +37,8 @@ led_by rules s now limit d m = cond (is_noted (answered rules s now limit d m)) 
 
 -- The state to which a note leads: an input command acts and has its reply; a take at its moment gives an order; the result of the order of
 -- its reference's lease counts, whose token it has; the document of its reference's mark counts, whose ticket it has; a settle at its moment
--- goes as far as it goes; just so many events of it stand, whatever cut it; or what wasn't kept changes nothing. There is none where nothing of
--- the kind happens.
+-- goes as far as it goes; where it lacked memory just so many events of it stand, and just its first where what follows that wasn't kept; or what
+-- wasn't kept changes nothing. There is none where nothing of the kind happens.
 unfoldable pub led : Rules → Settings → Noted → State → Option State
 led rules s (notes.Acted input reply) m = cond (are_alike reply (answered rules s 0 None (deed_in input) m)) (led_by rules s 0 None (deed_in input) m) None
 led rules s (notes.Taken now) m = led_by rules s now None Take m
@@ -47,7 +47,7 @@ led rules s (notes.Stitched reference ticket) m = option_and_then (λ x. cond (n
 led rules s (notes.Settled now) m = led_by rules s now None Settle m
 led rules s notes.Unkept m = Some m
 led rules s (notes.Cut now events) m = cond (nat_eq (try_settle rules s now (Some events) m).events events) (led_by rules s now (Some events) Settle m) None
-led rules s (notes.CutUnkept now events) m = cond (nat_eq (try_settle rules s now (Some events) m).events events) (Some (done rules s now (Some events) Settle m)) None
+led rules s (notes.CutUnkept now events) m = cond (nat_eq events 1 && nat_eq (try_settle rules s now (Some 1) m).events 1) (Some (done rules s now (Some 1) Settle m)) None
 
 -- The state to which a journal leads from the opening state, each entry from the state of the entries before it; there is none where an entry
 -- leads nowhere.

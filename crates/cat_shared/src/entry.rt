@@ -52,7 +52,7 @@ pub enum Noted {
     },
     /// The keeper failed: a command's change wasn't kept, and all was as before it.
     Unkept,
-    /// A settle was cut at this moment, since what follows its first events wasn't kept: just these stand, as many as this.
+    /// A settle was cut at this moment, since what follows its first event wasn't kept: just this event stands, so the number is 1.
     CutUnkept {
         now: u64,
         events: u64,

@@ -43,8 +43,8 @@ pub trait TimedDesk<L: Layers> {
     ghost faults: { Self → ℕ };
 
     /// Does what a command says, which stays with the caller, and answers it with the moment at which it came. Where its change isn't kept, the
-    /// catalogue is as before, or has just the first events of a settle, as many as the answer says. The answer has the keeper's fault then, and only
-    /// where the keeper's count rose in this call.
+    /// catalogue is as before, or has just the first event of a settle. The answer has the keeper's fault then, and only where the keeper's count rose
+    /// in this call.
     fn act_at(
         &mut self,
         alloc: Global,

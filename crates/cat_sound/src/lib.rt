@@ -19,5 +19,3 @@ pub mod reopen;
 
 // What this crate stands on and hands on.
 pub use cat_events;
-pub use cat_events::cat_laws;
-pub use cat_hold;

@@ -1,3 +1,2 @@
 pub mod Spare
-pub use Rattle.cat_desk.specs.cat_core
 pub use Rattle.cat_desk

@@ -3,7 +3,7 @@ use Rattle.std.specs.Prelude.{◌≡◌, Bool, true, false}
 use Rattle.std.specs.Option.{ForSome}
 use Rattle.std.specs.declared.option.Option.{Option}
 use Rattle.cat_desk.specs.declared.command.Reply.{Reply}
-use Rattle.cat_desk.specs.declared.command.Reply.TheVariants.{Cut, Placed, Refused, Settled, StitchTaken}
+use Rattle.cat_desk.specs.declared.command.Reply.TheVariants.{Cut, Placed, Refused, StitchTaken}
 use Rattle.cat_model.specs.declared.types.State.{State}
 
 -- A spare copy, where there is one, is what the catalogue holds.
@@ -17,9 +17,8 @@ leaves_records (StitchTaken order) = true
 leaves_records (Placed what) = true
 leaves_records _ = false
 
--- Whether a reply says that its deed was done to its end: any but a refusal, and but what a settle answers.
+-- Whether a reply says that its deed was done to its end: any but a refusal, and but what a settle answers that was cut.
 abbrev pub says_whole : Reply → Bool
 says_whole (Refused fault) = false
 says_whole (Cut short) = false
-says_whole (Settled counts) = false
 says_whole _ = true

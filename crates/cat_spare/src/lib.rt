@@ -11,4 +11,3 @@ pub mod spare;
 
 // What this crate stands on and hands on.
 pub use cat_desk;
-pub use cat_desk::cat_core;

@@ -7,9 +7,9 @@ ghost use Rattle.cat_desk.specs.Deed.{deed_of};
 ghost use Rattle.cat_spare.specs.Spare.{IsSpare, leaves_records, says_whole};
 
 use cat_desk::cat_core::catalogue::{Catalogue, Done, Saved, Stitched};
-use cat_desk::cat_hold::layers::Layers;
 use cat_desk::command::{Command, Reply};
 use cat_desk::timed::act;
+use cat_hold::layers::Layers;
 use cat_model::types::Acted;
 use cat_types::input::Mutation;
 use std::alloc::{AllocError, Global};
@@ -50,18 +50,22 @@ fn says_whole(reply: &Reply) -> bool
     ensures { result ≡ says_whole reply.now }
 {
     match reply {
-        Reply::Refused(_) | Reply::Settled(_) | Reply::Cut(_) => false,
+        Reply::Refused(_) | Reply::Cut(_) => false,
         Reply::Mutated(_)
         | Reply::Changed
         | Reply::Taken(_)
         | Reply::Finished(_)
         | Reply::StitchTaken(_)
-        | Reply::Placed(_) => true,
+        | Reply::Placed(_)
+        | Reply::Settled(_) => true,
     }
 }
 
 // A mutation with more items than this is dearer to do again than a copy is to make.
 const ITEMS: usize = 64;
+
+// And so is a settle with more leases than this.
+const LEASES: u64 = 64;
 
 // Whether a mutation has more items than are done again. Nothing rests on the answer.
 fn is_large(mutation: &Mutation) -> bool {
@@ -75,6 +79,7 @@ fn is_large(mutation: &Mutation) -> bool {
 fn is_dear<L: Layers>(command: &Command<Done<'_, L>, Stitched<'_, L>>, reply: &Reply) -> bool {
     match (command, reply) {
         (Command::Mutate(_, mutation), Reply::Mutated(Acted::Now)) => is_large(mutation),
+        (Command::Settle, Reply::Settled(counts)) => counts.leases > LEASES,
         _ => false,
     }
 }
@@ -128,7 +133,8 @@ fn repeated<L: Layers>(
 }
 
 /// A copy of what the catalogue held before a command is brought to what it holds after it: the same is done to the copy, unless the reply says that
-/// the records are as before. None where the command was a settle or a large mutation, for which a new copy is cheaper, or where memory lacks.
+/// the records are as before. None where the command was a large mutation or a settle with many leases, for which a new copy is cheaper, where it was a
+/// settle that was cut, or where memory lacks.
 pub fn brought_up<L: Layers>(
     alloc: Global,
     catalogue: &mut Catalogue<L>,

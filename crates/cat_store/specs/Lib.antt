@@ -2,9 +2,6 @@ pub mod Narrow
 pub mod Opened
 pub mod Tells
 pub mod Refused
-pub use Rattle.cat_sound.specs.cat_events
-pub use Rattle.cat_sound.specs.cat_hold
 pub use Rattle.cat_renewed
-pub use Rattle.cat_renewed.specs.cat_reopened
 pub use Rattle.cat_rows
 pub use Rattle.cat_tables

@@ -20,7 +20,5 @@ mod tells;
 
 // What this crate stands on and hands on.
 pub use cat_renewed;
-pub use cat_renewed::cat_reopened;
 pub use cat_rows;
-pub use cat_sound::{cat_events, cat_hold};
 pub use cat_tables;

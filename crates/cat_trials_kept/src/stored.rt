@@ -101,6 +101,53 @@ fn what_is_kept_is_there_again(rt: HostRuntime) -> Result<(), Fail> {
     Ok(())
 }
 
+// What a provider gives: a Component of this number, with this owner.
+fn component(alloc: Global, number: u64, owner: &str) -> Result<String, AllocError> {
+    format!(in alloc;
+        "{{\"entity\":{{\"apiVersion\":\"backstage.io/v1alpha1\",\"kind\":\"Component\",\"metadata\":{{\"name\":\"c{number}\"}},\"spec\":{{\"type\":\"service\",\"lifecycle\":\"production\",\"owner\":\"{owner}\"}}}}}}"
+    )
+}
+
+// Appends a Component of this number, with this owner.
+fn push_component(
+    alloc: Global,
+    lines: &mut String,
+    number: u64,
+    owner: &str,
+) -> Result<(), AllocError> {
+    let given = component(alloc, number, owner)?;
+    lines.push_str(given.as_str())
+}
+
+// Lines that give 40 Components, settle them, give one of them another owner, and settle that.
+fn forty(alloc: Global) -> Result<String, AllocError> {
+    let mut lines = String::new(alloc);
+    lines.push_str("full git {\"serial\":1,\"entities\":[")?;
+    push_component(alloc, &mut lines, 0, "a")?;
+    for number in 1..40u64 {
+        lines.push_str(",")?;
+        push_component(alloc, &mut lines, number, "a")?;
+    }
+    lines.push_str("]}\nsettle\ndelta git {\"serial\":2,\"added\":[")?;
+    push_component(alloc, &mut lines, 7, "b")?;
+    lines.push_str("],\"removed\":[]}\nsettle\nlist\n")?;
+    Ok(lines)
+}
+
+// The second settle reaches one Component of 40, and the store follows it there: a second session's documents are those with which the first one ended.
+#[test]
+fn what_settles_reached_is_kept(rt: HostRuntime) -> Result<(), Fail> {
+    let alloc = rt.alloc();
+    let lines = forty(alloc)?;
+    let (ran, first) = session_over(alloc, keeper_of(alloc, &[], 0)?, lines.as_bytes())?;
+    let (_, second) = session_over(alloc, ran.keeper, b"list\n")?;
+    let replies: &[u8] = b"ok\nsettled 1 40 40\nok\nsettled 1 1 1\n";
+    let wanted = [replies, second.written()].concat(alloc)?;
+    assert_eq!(rt; first.written(), wanted.as_slice());
+    assert!(rt; second.written().len() > 4_000);
+    Ok(())
+}
+
 #[test]
 fn a_row_without_a_reading_is_named(rt: HostRuntime) -> Result<(), Fail> {
     let alloc = rt.alloc();

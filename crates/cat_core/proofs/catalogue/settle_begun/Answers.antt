@@ -2,7 +2,7 @@ use Rattle.std.proofs.Common.{◌≡◌, ap, sym, subst, ◌∙◌}
 use Rattle.cat_model.specs.declared.types.Progress.{Progress}
 use Rattle.cat_model.specs.Settle.{try_settle}
 use Rattle.cat_settle.specs.Part.{Came}
-use Rattle.cat_core.proofs.Settles.{begun_within, few_events, first_events, settled_begun}
+use Rattle.cat_core.proofs.Settles.{begun_within, few_events, first_events, none_stand, settled_begun}
 use Rattle.cat_core.proofs.catalogue.settle_begun.Goals as goal
 
 pub returns-clause-state : goal.returns-clause-state
@@ -30,3 +30,6 @@ returns-clause-begun g c =
 
 pub returns-clause-most : goal.returns-clause-most
 returns-clause-most g c = c.settled-came.ensures.within (begun_within c.args.most c.begun-p.result _ c.begun-p.ensures)
+
+pub returns-clause-none : goal.returns-clause-none
+returns-clause-none g c = λ none. none_stand g.L.Layers.rules c.args.settings.now c.args.now c.args.state.now c.settled-came.new.p.events c.settled-came.new.p.state none (returns-clause-state g c)

@@ -2,6 +2,7 @@ use Rattle.std.proofs.Common.{◌≡◌, ◌-◌, ◌^◌, arith, ap, sym, subst
 use Rattle.cat_model.specs.declared.types.Progress.{Progress}
 use Rattle.cat_model.specs.Settle.{try_settle}
 use Rattle.cat_settle.specs.Part.{Came}
+use Rattle.cat_settle.specs.cat_reach.specs.Gathered.{Gathers}
 use Rattle.cat_core.specs.Answer.{IsSettled}
 use Rattle.cat_core.proofs.Settles.{begun_within, few_events, settled_begun, settles}
 use Rattle.cat_core.proofs.catalogue.settle_state.Goals as goal
@@ -20,3 +21,8 @@ returns-clause-begun g c =
     let e : c.begun-p.result.state ≡ c.args.state.now = ap (λ (q : Progress). q.state) c.begun-p.ensures ∙ c.replace-taken.ensures.value in
     settled_begun g.L.Layers.rules c.args.settings.now c.args.now c.args.state.now c.settled-came.result p (few_events (2 ^ 64 - 2) p (c.settled-came.ensures.within (begun_within (2 ^ 64 - 2) c.begun-p.result _ c.begun-p.ensures)) (omega arith))
     (subst (λ m. Came c.settled-came.result (λ limit. try_settle g.L.Layers.rules c.args.settings.now c.args.now limit m) p) e c.settled-came.ensures.came) c.requires.begun
+
+pub returns-clause-gathers : goal.returns-clause-gathers
+returns-clause-gathers g c =
+    let e : c.begun-p.result.state ≡ c.args.state.now = ap (λ (q : Progress). q.state) c.begun-p.ensures ∙ c.replace-taken.ensures.value in
+    subst (λ m. Gathers c.args.reached.now m c.settled-came.new.reached c.settled-came.new.p.state) e c.settled-came.ensures.gathers

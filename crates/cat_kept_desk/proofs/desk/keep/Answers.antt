@@ -7,5 +7,5 @@ use Rattle.cat_kept_desk.proofs.desk.keep.Goals as goal
 pub follow_reached-requires-clause-beyond : goal.follow_reached-requires-clause-beyond
 follow_reached-requires-clause-beyond g c =
     let reached = c.in-Ok-Some.reached in
-    let found = subst (IsFound (deed_of c.args.command.now) c.args.saved.now c.args.after.now) c.in-Ok-Some.field-0-is c.in-Ok-Some.ensures in
+    let found = subst (IsFound (deed_of c.args.command.now) c.args.settled c.args.saved.now c.args.after.now) c.in-Ok-Some.field-0-is c.in-Ok-Some.ensures in
     subst (λ m. IsBeyond reached m c.args.after.now) (sym c.state.ensures.state) (c.requires.beyond reached found)

@@ -1,7 +1,7 @@
 use Rattle.std.proofs.Common.{◌≡◌, true, sym, ap, subst, ◌∙◌}
 use Rattle.std.specs.FinMap.Entries.{is_sorted}
 use Rattle.cat_table.specs.Table.{text_cmp}
-use Rattle.cat_spare.specs.cat_core.specs.declared.ledger.Ledger.{Ledger}
+use Rattle.cat_spare.specs.cat_desk.specs.cat_core.specs.declared.ledger.Ledger.{Ledger}
 use Rattle.cat_spare.specs.cat_desk.specs.Acts.{Acts}
 use Rattle.cat_spare.specs.cat_desk.specs.Deed.{deed_of}
 use Rattle.cat_store.specs.cat_tables.specs.Stored.{stored}

@@ -1,5 +1,6 @@
 use Rattle.std.proofs.Common.{◌≤◌}
 use Rattle.cat_events.specs.Coming.{IsSteady}
+use Rattle.cat_reached.specs.cat_reach.specs.Gathered.{Gathers}
 use Rattle.cat_settle.specs.Part.{Goes, HaveRounds}
 use Rattle.cat_settle.proofs.Moves.{left}
 use Rattle.cat_settle.proofs.rounds.all_rounds.Given as goal
@@ -9,6 +10,7 @@ invariant-rounds g l = record {
   have : HaveRounds g.L.Layers.rules l.settings l.now l.initial.p l.p;
   goes : Goes g.L.Layers.rules l.initial.p l.p;
   within : l.initial.p.events ≤ l.most → l.p.events ≤ l.most;
+  gathers : Gathers l.initial.reached l.initial.p.state l.reached l.p.state;
   steady : IsSteady g.L.Layers.rules l.links l.p.state;
 }
 

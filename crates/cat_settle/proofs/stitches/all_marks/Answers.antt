@@ -1,5 +1,6 @@
-use Rattle.std.proofs.Common.{ap, ◌∙◌}
+use Rattle.std.proofs.Common.{[], ap, ◌∙◌}
 use Rattle.cat_model.specs.Settle.{try_stitches}
+use Rattle.cat_settle.proofs.Gathering.{within_itself}
 use Rattle.cat_settle.proofs.Parts.{came_same, cut_here, rests}
 use Rattle.cat_settle.proofs.Stays.{marks_stays}
 use Rattle.cat_settle.proofs.stitches.all_marks.Goals as goal
@@ -13,3 +14,6 @@ returns-in-Err-clause-came g c = cut_here _ (marks_stays g.L.Layers.rules c.args
 
 pub returns-in-Err-clause-goes : goal.returns-in-Err-clause-goes
 returns-in-Err-clause-goes g c = rests g.L.Layers.rules c.args.p.now
+
+pub returns-in-Err-clause-still : goal.returns-in-Err-clause-still
+returns-in-Err-clause-still g c = within_itself [] c.args.p.now.state

@@ -1,5 +1,6 @@
-use Rattle.std.proofs.Common.{ap, sym}
+use Rattle.std.proofs.Common.{[], ap, sym}
 use Rattle.cat_model.specs.Settle.{try_stitch_with}
+use Rattle.cat_settle.proofs.Gathering.{within_itself}
 use Rattle.cat_settle.proofs.Parts.{came_same, nothing_done, rests, same_done}
 use Rattle.cat_settle.proofs.stitches.given_stitched.Goals as goal
 
@@ -13,3 +14,6 @@ returns-in-None-clause-came g c =
 
 pub returns-in-None-clause-goes : goal.returns-in-None-clause-goes
 returns-in-None-clause-goes g c = rests g.L.Layers.rules c.args.p.now
+
+pub returns-in-None-clause-still : goal.returns-in-None-clause-still
+returns-in-None-clause-still g c = within_itself [] c.args.p.now.state

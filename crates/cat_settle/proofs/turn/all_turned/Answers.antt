@@ -1,6 +1,7 @@
 use Rattle.std.proofs.Common.{◌≡◌, ◌+◌, ◌∷◌, ◌∙◌, drop, ap, sym, subst, rules}
 use Rattle.std.proofs.lemmas.List.{at_drop_all, drop_more}
 use Rattle.cat_model.specs.Settle.{try_turn, try_turns}
+use Rattle.cat_settle.proofs.Gathering.{gathers_on}
 use Rattle.cat_settle.proofs.Parts.{Leads, goes_on, leads_cut, leads_on, nothing_done, rests, same_done}
 use Rattle.cat_settle.proofs.Stays.{turns_stays}
 use Rattle.cat_settle.proofs.turn.all_turned.Goals as goal
@@ -29,6 +30,7 @@ loop-reference-preserved g c =
           (subst (λ l. Leads g.L.Layers.rules (λ limit. try_turns g.L.Layers.rules c.args.settings.now c.args.now limit c.args.refs.now c.args.p.now) p (λ limit x. try_turns g.L.Layers.rules c.args.settings.now c.args.now limit l x)) e c.loop-reference.invariant.leads) c.in-Ok.ensures.came;
       goes = goes_on g.L.Layers.rules c.args.p.now p c.turned.new.p c.loop-reference.invariant.goes c.turned.ensures.goes;
       within = λ h. c.turned.ensures.within (c.loop-reference.invariant.within h);
+      gathers = gathers_on c.args.reached.now c.loop-reference.reached c.turned.new.reached c.args.p.now.state p.state c.turned.new.p.state c.loop-reference.invariant.gathers c.turned.ensures.gathers;
       steady = c.turned.ensures.steady;
     }
 
@@ -37,3 +39,7 @@ returns-clause-came g c =
     let p = c.loop-reference.p in
     c.loop-reference.invariant.leads.done p (rests g.L.Layers.rules p)
     (same_done (λ limit. p) _ (λ limit. sym (at_drop_all (λ l. try_turns g.L.Layers.rules c.args.settings.now c.args.now limit l p) c.args.refs.now c.loop-reference.reference-index (search rules))) p (nothing_done p))
+
+pub returns-in-Err-clause-gathers : goal.returns-in-Err-clause-gathers
+returns-in-Err-clause-gathers g c =
+    gathers_on c.args.reached.now c.loop-reference.reached c.turned.new.reached c.args.p.now.state c.loop-reference.p.state c.turned.new.p.state c.loop-reference.invariant.gathers c.turned.ensures.gathers

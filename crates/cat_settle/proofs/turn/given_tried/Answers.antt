@@ -1,5 +1,6 @@
 use Rattle.std.proofs.Common.{ap, sym}
 use Rattle.cat_model.specs.Settle.{try_finish}
+use Rattle.cat_settle.proofs.Gathering.{gathers_none}
 use Rattle.cat_settle.proofs.Parts.{came_same, nothing_done, rests, same_done}
 use Rattle.cat_settle.proofs.turn.given_tried.Goals as goal
 
@@ -13,3 +14,6 @@ returns-in-None-clause-came g c =
 
 pub returns-in-None-clause-goes : goal.returns-in-None-clause-goes
 returns-in-None-clause-goes g c = rests g.L.Layers.rules c.args.p.now
+
+pub returns-in-None-clause-gathers : goal.returns-in-None-clause-gathers
+returns-in-None-clause-gathers g c = gathers_none c.args.reached.now c.args.p.now.state

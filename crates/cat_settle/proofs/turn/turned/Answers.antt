@@ -1,5 +1,6 @@
 use Rattle.std.proofs.Common.{ap, sym, ◌∙◌, cond}
 use Rattle.cat_model.specs.Settle.{is_due, try_take_and_finish}
+use Rattle.cat_settle.proofs.Gathering.{gathers_none}
 use Rattle.cat_settle.proofs.Parts.{came_same, nothing_done, rests, same_done}
 use Rattle.cat_settle.proofs.turn.turned.Goals as goal
 
@@ -15,3 +16,6 @@ returns-else-due-clause-came g c =
 
 pub returns-else-due-clause-goes : goal.returns-else-due-clause-goes
 returns-else-due-clause-goes g c = rests g.L.Layers.rules c.args.p.now
+
+pub returns-else-due-clause-gathers : goal.returns-else-due-clause-gathers
+returns-else-due-clause-gathers g c = gathers_none c.args.reached.now c.args.p.now.state

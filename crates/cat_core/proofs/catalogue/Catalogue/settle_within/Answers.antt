@@ -17,3 +17,6 @@ returns-clause-state g c = subst (λ l. c.settle_begun.new.state ≡ (try_settle
 
 pub returns-clause-events : goal.returns-clause-events
 returns-clause-events g c = subst (λ l. (try_settle g.L.Layers.rules l.settings c.args.now (Some c.settle_begun.result) l.state).events ≡ c.settle_begun.result) c.self.view_is c.settle_begun.ensures.events
+
+pub returns-clause-none : goal.returns-clause-none
+returns-clause-none g c = subst (λ l. c.settle_begun.result ≡ 0 → c.settle_begun.new.state ≡ l.state) c.self.view_is c.settle_begun.ensures.none

@@ -1,5 +1,5 @@
 use Rattle.std.proofs.Common.{sym, subst}
-use Rattle.cat_spare.specs.cat_core.specs.declared.ledger.Ledger.{Ledger}
+use Rattle.cat_spare.specs.cat_desk.specs.cat_core.specs.declared.ledger.Ledger.{Ledger}
 use Rattle.cat_kept_desk.specs.Followed.{IsFollowed}
 use Rattle.cat_spare.specs.Spare.{IsSpare}
 use Rattle.cat_kept_desk.proofs.desk.KeptDesk.prepare.Goals as goal
