@@ -166,6 +166,52 @@ fn either(left: bool, right: bool) -> bool
     left || right
 }
 
+// What rows tell of what arrived: what first arrived with a number, and whether arrival numbers and numbers of records and orphans stand twice.
+#[derive(Drop)]
+struct Arrived {
+    given: Map<u64, Given>,
+    arrivals: Map<u64, bool>,
+    numbers: Map<u64, bool>,
+}
+
+fn arrived_in(alloc: Global, readings: &[Option<StoredRow>]) -> Result<Arrived, AllocError>
+    ensures given { IfOk result (λ x. (n : ℕ) → find nat_cmp n x.given ≡ find nat_cmp n (flat_map spec.given_in (read_rows readings.now))) }
+    ensures arrivals { IfOk result (λ x. (n : ℕ) → is_first (find nat_cmp n x.arrivals) ≡ is_once nat_cmp (map (λ e. e.0) (flat_map spec.given_in (read_rows readings.now))) n) }
+    ensures numbers { IfOk result (λ x. (n : ℕ) → is_first (find nat_cmp n x.numbers) ≡ is_once nat_cmp (flat_map spec.drawn_in (read_rows readings.now)) n) }
+{
+    let given = first_given(alloc, readings)?;
+    let arrivals = arrivals(alloc, readings)?;
+    let numbers = numbers(alloc, readings)?;
+    Ok(Arrived {
+        given,
+        arrivals,
+        numbers,
+    })
+}
+
+// What rows tell under names: the serials of providers, the arrival numbers of the rows that hold references, and the orphans' references.
+#[derive(Drop)]
+struct Named {
+    serials: Map<Text, u64>,
+    holders: Map<Ref, u64>,
+    orphans: Map<Ref, ()>,
+}
+
+fn named_in(alloc: Global, readings: &[Option<StoredRow>]) -> Result<Named, AllocError>
+    ensures serials { IfOk result (λ x. (name : Text) → find text_cmp name x.serials ≡ find text_cmp name (flat_map spec.serial_in (read_rows readings.now))) }
+    ensures holders { IfOk result (λ x. (r : Text) → find text_cmp r x.holders ≡ find text_cmp r (flat_map spec.holder_in (read_rows readings.now))) }
+    ensures orphans { IfOk result (λ x. (r : Text) → find text_cmp r x.orphans ≡ find text_cmp r (flat_map spec.orphan_in (read_rows readings.now))) }
+{
+    let serials = serials(alloc, readings)?;
+    let holders = holders(alloc, readings)?;
+    let orphans = orphans(alloc, readings)?;
+    Ok(Named {
+        serials,
+        holders,
+        orphans,
+    })
+}
+
 /// What the rows that have a reading tell.
 pub fn gathered(alloc: Global, readings: &[Option<StoredRow>]) -> Result<Told, AllocError>
     ensures { IfOk result (λ t. asked t ≡ answers readings.now) }
@@ -174,13 +220,9 @@ pub fn gathered(alloc: Global, readings: &[Option<StoredRow>]) -> Result<Told, A
     let number = next_number(alloc, readings)?;
     let has_rule = has_rule(alloc, readings)?;
     let has_trees = has_trees(alloc, readings)?;
-    let serials = serials(alloc, readings)?;
-    let given = first_given(alloc, readings)?;
-    let arrivals = arrivals(alloc, readings)?;
-    let numbers = numbers(alloc, readings)?;
-    let holders = holders(alloc, readings)?;
     let records = records(alloc, readings)?;
-    let orphans = orphans(alloc, readings)?;
+    let arrived = arrived_in(alloc, readings)?;
+    let named = named_in(alloc, readings)?;
     let trees = trees(alloc, readings)?;
     Ok(Told {
         rows: readings.len(),
@@ -188,13 +230,13 @@ pub fn gathered(alloc: Global, readings: &[Option<StoredRow>]) -> Result<Told, A
         number,
         is_second: either(has_rule, has_trees),
         has_rule,
-        serials,
-        given,
-        arrivals,
-        numbers,
-        holders,
+        serials: named.serials,
+        given: arrived.given,
+        arrivals: arrived.arrivals,
+        numbers: arrived.numbers,
+        holders: named.holders,
         records,
-        orphans,
+        orphans: named.orphans,
         trees,
     })
 }

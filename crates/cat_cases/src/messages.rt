@@ -1,8 +1,8 @@
 //! Messages as clients send them.
 use crate::case::Case;
 use crate::fault::Fault;
-use crate::shown::{push_bytes, push_counted, push_texts};
-use cat_http::message::{Message, Next, next_message};
+use crate::shown::{push_bytes, push_counted, push_number, push_texts};
+use cat_http::message::{Message, Next, Rule, next_message};
 use std::alloc::{AllocError, Global};
 
 // Puts the method, the path and the query of a message behind what stands so far.
@@ -28,12 +28,18 @@ fn push_message(out: &mut String, message: &Message, length: u64) -> Result<(), 
     push_counted(out, end, length).map_err(Fault::Memory)
 }
 
+// Puts the status of a message that is refused, and the rule by which it is, behind what stands so far.
+fn push_refused(out: &mut String, status: u16, rule: &Rule) -> Result<(), AllocError> {
+    push_number(out, status as u64)?;
+    write!(out, " {rule:?}")
+}
+
 // Puts what stands at the front of bytes behind what stands so far.
 fn push_next(out: &mut String, next: &Next) -> Result<(), Fault> {
     match next {
         Next::Whole(message, length) => push_message(out, message, *length),
         Next::More => out.push_str("more").map_err(Fault::Memory),
-        Next::Refused(status, rule) => write!(out, "{status} {rule:?}").map_err(Fault::Memory),
+        Next::Refused(status, rule) => push_refused(out, *status, rule).map_err(Fault::Memory),
     }
 }
 

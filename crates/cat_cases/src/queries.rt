@@ -120,7 +120,7 @@ fn push_read(
 
 // The text of a query behind a cursor.
 fn behind(alloc: Global, cursor: &str, text: &str) -> Result<String, AllocError> {
-    format!(in alloc; "cursor={cursor}&{text}")
+    ["cursor=", cursor, "&", text].concat(alloc)
 }
 
 // Puts the names of the page behind a cursor, if there is one, behind what stands so far, and gives the text of the cursor behind it.

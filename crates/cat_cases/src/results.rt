@@ -75,7 +75,8 @@ fn push_offers(out: &mut String, alloc: Global, output: &Output) -> Result<(), F
 fn push_issue(out: &mut String, issue: &Issue) -> Result<(), AllocError> {
     let level = issue.level;
     let name = issue.name;
-    write!(out, "{level:?} {name:?} ")?;
+    write!(out, "{level:?} ")?;
+    write!(out, "{name:?} ")?;
     push_texts(out, &[issue.message.as_str(), "\n"])
 }
 

@@ -726,20 +726,68 @@ pub fn rule_of(rows: &[StoredRow]) -> OrphanRule
     rule
 }
 
+// What rows tell of the inputs of a state.
+#[derive(Drop)]
+struct Inputs {
+    providers: Map<Text, ProviderInputs>,
+    shelf: Map<Text, Text>,
+    rows: IndexedRows,
+}
+
+fn inputs_of(alloc: Global, trees: &Trees, rows: &[StoredRow]) -> Result<Inputs, AllocError>
+    ensures providers { IfOk result (λ x. x.providers ≡ spec.providers_of trees.now rows.now) }
+    ensures shelf { IfOk result (λ x. x.shelf ≡ spec.shelf_of rows.now) }
+    ensures rows { IfOk result (λ x. x.rows ≡ spec.rows_of trees.now rows.now) }
+{
+    let providers = providers_of(alloc, trees, rows)?;
+    let shelf = shelf_of(alloc, rows)?;
+    let rows = rows_of(alloc, trees, rows)?;
+    Ok(Inputs {
+        providers,
+        shelf,
+        rows,
+    })
+}
+
+// What rows tell of what a state knows.
+#[derive(Drop)]
+struct Known {
+    holders: Map<Ref, u64>,
+    records: Records,
+    orphans: Map<Ref, Orphan>,
+}
+
+fn known_of(alloc: Global, trees: &Trees, rows: &[StoredRow]) -> Result<Known, AllocError>
+    ensures holders { IfOk result (λ x. x.holders ≡ spec.holders_of rows.now) }
+    ensures records { IfOk result (λ x. x.records ≡ spec.records_of trees.now rows.now) }
+    ensures orphans { IfOk result (λ x. x.orphans ≡ spec.orphans_of rows.now) }
+{
+    let holders = holders_of(alloc, rows)?;
+    let records = records_of(alloc, trees, rows)?;
+    let orphans = orphans_of(alloc, rows)?;
+    Ok(Known {
+        holders,
+        records,
+        orphans,
+    })
+}
+
 /// The state of rows, without marks and documents. Each record is due at once, and tokens and tickets start at 1.
 #[tactic(auto, unfolding(crate::specs::Standing::state_of))]
 pub fn state_of(alloc: Global, rows: &[StoredRow]) -> Result<State, AllocError>
     ensures { IfOk result (λ m. m ≡ spec.state_of rows.now) }
 {
     let trees = trees_of(alloc, rows)?;
+    let inputs = inputs_of(alloc, &trees, rows)?;
+    let known = known_of(alloc, &trees, rows)?;
     let next = counters_of(rows);
     Ok(State {
-        providers: providers_of(alloc, &trees, rows)?,
-        shelf: shelf_of(alloc, rows)?,
-        rows: rows_of(alloc, &trees, rows)?,
-        holders: holders_of(alloc, rows)?,
-        records: records_of(alloc, &trees, rows)?,
-        orphans: orphans_of(alloc, rows)?,
+        providers: inputs.providers,
+        shelf: inputs.shelf,
+        rows: inputs.rows,
+        holders: known.holders,
+        records: known.records,
+        orphans: known.orphans,
         marks: Marks::new(),
         documents: Index::empty(),
         arrival: next.arrival,

@@ -19,6 +19,7 @@ use crate::events::{Came, event};
 use cat_core::catalogue::Catalogue;
 use cat_layers::layered::Layered;
 use cat_model::types::{OrphanRule, Settings};
+use itoa::Buffer;
 use std::alloc::{AllocError, Global};
 use std::io::{self, Read, Write};
 
@@ -65,13 +66,50 @@ fn count(
     Ok(())
 }
 
-// The line of a session over a catalogue.
-fn told(
+// Puts a number, and a text behind it, behind what stands so far.
+fn push_number(out: &mut String, number: u64, behind: &str) -> Result<(), AllocError> {
+    let mut buffer = Buffer::new();
+    out.push_str(buffer.format(number))?;
+    out.push_str(behind)
+}
+
+// Puts numbers, and a space behind each, behind what stands so far.
+fn push_numbers(out: &mut String, numbers: &[u64]) -> Result<(), AllocError> {
+    for number in numbers {
+        push_number(out, *number, " ")?;
+    }
+    Ok(())
+}
+
+// Puts what came of a session over a catalogue behind what stands so far.
+fn push_tally(
+    out: &mut String,
+    catalogue: &Catalogue<Layered>,
+    tally: &Tally,
+) -> Result<(), AllocError> {
+    let documents = catalogue.view().documents.len() as u64;
+    let orphans = catalogue.view().orphans.len() as u64;
+    push_numbers(
+        out,
+        &[
+            tally.acted,
+            tally.refused,
+            tally.settled,
+            documents,
+            orphans,
+        ],
+    )?;
+    out.push_str(if tally.fresh { "fresh\n" } else { "differs\n" })
+}
+
+// Puts the line of a session over a catalogue behind those so far.
+fn push_told(
     alloc: Global,
+    out: &mut String,
     catalogue: &mut Catalogue<Layered>,
     seed: u64,
     events: u64,
-) -> Result<String, AllocError> {
+) -> Result<(), AllocError> {
     let mut draws = Draws::new(seed);
     let mut tally = Tally {
         acted: 0,
@@ -83,24 +121,16 @@ fn told(
         let came = event(alloc, catalogue, number, &mut draws)?;
         count(alloc, catalogue, came, &mut tally)?;
     }
-    let Tally {
-        acted,
-        refused,
-        settled,
-        fresh,
-    } = tally;
-    let documents = catalogue.view().documents.len();
-    let orphans = catalogue.view().orphans.len();
-    let word = if fresh { "fresh" } else { "differs" };
-    format!(in alloc; "{seed}: {acted} {refused} {settled} {documents} {orphans} {word}\n")
+    push_number(out, seed, ": ")?;
+    push_tally(out, catalogue, &tally)
 }
 
-// The line of a session.
-fn session(alloc: Global, seed: u64, events: u64) -> Result<String, AllocError> {
+// Puts the line of a session behind those so far.
+fn push_session(alloc: Global, out: &mut String, seed: u64, events: u64) -> Result<(), AllocError> {
     let mut catalogue = empty(alloc, seed);
-    let line = told(alloc, &mut catalogue, seed, events);
+    let told = push_told(alloc, out, &mut catalogue, seed, events);
     drop(catalogue);
-    line
+    told
 }
 
 // A line for each line.
@@ -110,7 +140,7 @@ fn sessions(alloc: Global, text: &str) -> Result<String, AllocError> {
         let (seed, events) = line.split_once(' ').unwrap_or((line, ""));
         let seed = seed.parse::<u64>().unwrap_or(0);
         let events = events.parse::<u64>().unwrap_or(0);
-        out.push_str(session(alloc, seed, events)?.as_str())?;
+        push_session(alloc, &mut out, seed, events)?;
     }
     Ok(out)
 }

@@ -1,5 +1,6 @@
 //! Texts of mutations and of the shelf, about a few names, so that they meet.
 use crate::draws::Draws;
+use itoa::Buffer;
 use std::alloc::{AllocError, Global};
 
 const NAMES: [&str; 6] = ["a", "b", "c", "d", "e", "f"];
@@ -28,7 +29,18 @@ pub fn shelf_name(draws: &mut Draws) -> &'static str {
 pub fn reference(alloc: Global, draws: &mut Draws) -> Result<String, AllocError> {
     let kind = draws.word(&KINDS);
     let name = name(draws);
-    format!(in alloc; "{kind}:{name}")
+    [kind, ":", name].concat(alloc)
+}
+
+// What a Component says in its `spec`.
+fn component_said(alloc: Global, owner: &str, other: &str) -> Result<String, AllocError> {
+    let begin = "\"type\":\"service\",\"lifecycle\":\"production\",\"owner\":\"";
+    [begin, owner, "\",\"dependsOn\":[\"component:", other, "\"]"].concat(alloc)
+}
+
+// What a Location says in its `spec`.
+fn location_said(alloc: Global, file: &str) -> Result<String, AllocError> {
+    ["\"type\":\"file\",\"target\":\"/", file, ".json\""].concat(alloc)
 }
 
 // What an entity of a kind says in its `spec`; now and then it says too little.
@@ -39,17 +51,27 @@ fn said(alloc: Global, kind: &str, draws: &mut Draws) -> Result<String, AllocErr
     let other = name(draws);
     let owner = name(draws);
     match kind {
-        "Component" => format!(in alloc;
-            "\"type\":\"service\",\"lifecycle\":\"production\",\"owner\":\"{owner}\",\"dependsOn\":[\"component:{other}\"]"
-        ),
-        "Group" => format!(in alloc; "\"type\":\"team\",\"children\":[\"{other}\"]"),
-        "User" => format!(in alloc; "\"memberOf\":[\"{other}\"]"),
-        "System" => format!(in alloc; "\"owner\":\"{owner}\",\"domain\":\"{other}\""),
-        _ => {
-            let file = draws.word(&["a", "b", "c"]);
-            format!(in alloc; "\"type\":\"file\",\"target\":\"/{file}.json\"")
-        }
+        "Component" => component_said(alloc, owner, other),
+        "Group" => ["\"type\":\"team\",\"children\":[\"", other, "\"]"].concat(alloc),
+        "User" => ["\"memberOf\":[\"", other, "\"]"].concat(alloc),
+        "System" => ["\"owner\":\"", owner, "\",\"domain\":\"", other, "\""].concat(alloc),
+        _ => location_said(alloc, draws.word(&["a", "b", "c"])),
     }
+}
+
+// The descriptor of an entity.
+fn described(alloc: Global, kind: &str, name: &str, said: &str) -> Result<String, AllocError> {
+    let begin = "{\"apiVersion\":\"backstage.io/v1alpha1\",\"kind\":\"";
+    [
+        begin,
+        kind,
+        "\",\"metadata\":{\"name\":\"",
+        name,
+        "\"},\"spec\":{",
+        said,
+        "}}",
+    ]
+    .concat(alloc)
 }
 
 // An entity.
@@ -57,20 +79,21 @@ fn entity(alloc: Global, draws: &mut Draws) -> Result<String, AllocError> {
     let kind = draws.word(&KINDS);
     let name = name(draws);
     let said = said(alloc, kind, draws)?;
-    let said = said.as_str();
-    format!(in alloc;
-        "{{\"apiVersion\":\"backstage.io/v1alpha1\",\"kind\":\"{kind}\",\"metadata\":{{\"name\":\"{name}\"}},\"spec\":{{{said}}}}}"
-    )
+    described(alloc, kind, name, said.as_str())
+}
+
+// An item with this entity, and what ends it.
+fn ended(alloc: Global, entity: &str, end: &str) -> Result<String, AllocError> {
+    ["{\"entity\":", entity, end].concat(alloc)
 }
 
 // An item of a provider: an entity, now and then under a key.
 fn item(alloc: Global, draws: &mut Draws) -> Result<String, AllocError> {
     let entity = entity(alloc, draws)?;
-    let entity = entity.as_str();
     if draws.below(4) == 0 {
-        format!(in alloc; "{{\"entity\":{entity},\"locationKey\":\"k\"}}")
+        ended(alloc, entity.as_str(), ",\"locationKey\":\"k\"}")
     } else {
-        format!(in alloc; "{{\"entity\":{entity}}}")
+        ended(alloc, entity.as_str(), "}")
     }
 }
 
@@ -91,20 +114,41 @@ fn items(alloc: Global, draws: &mut Draws) -> Result<String, AllocError> {
     Ok(out)
 }
 
+// The body of a mutation with this serial.
+fn numbered(alloc: Global, serial: u64, texts: &[&str]) -> Result<String, AllocError> {
+    let mut buffer = Buffer::new();
+    let given = texts.concat(alloc)?;
+    [
+        "{\"serial\":",
+        buffer.format(serial),
+        ",",
+        given.as_str(),
+        "}",
+    ]
+    .concat(alloc)
+}
+
 /// The body of a `full` with this serial.
 pub fn full(alloc: Global, serial: u64, draws: &mut Draws) -> Result<String, AllocError> {
     let items = items(alloc, draws)?;
-    let items = items.as_str();
-    format!(in alloc; "{{\"serial\":{serial},\"entities\":[{items}]}}")
+    numbered(alloc, serial, &["\"entities\":[", items.as_str(), "]"])
 }
 
 /// The body of a `delta` with this serial.
 pub fn delta(alloc: Global, serial: u64, draws: &mut Draws) -> Result<String, AllocError> {
     let items = items(alloc, draws)?;
-    let items = items.as_str();
     let gone = reference(alloc, draws)?;
-    let gone = gone.as_str();
-    format!(in alloc; "{{\"serial\":{serial},\"added\":[{items}],\"removed\":[\"{gone}\"]}}")
+    numbered(
+        alloc,
+        serial,
+        &[
+            "\"added\":[",
+            items.as_str(),
+            "],\"removed\":[\"",
+            gone.as_str(),
+            "\"]",
+        ],
+    )
 }
 
 /// A text for the shelf: a list of up to three entities, now and then cut off.

@@ -21,6 +21,7 @@ use cat_turns::{Pass, Turns};
 use cat_work::gate::{Gate, GateCall, Go};
 use cat_work::stitch::stitch_loop;
 use cat_work::work::work_loop;
+use itoa::Buffer;
 use std::alloc::{AllocError, Global};
 use std::sync::Wait;
 use std::sync::atomic::{AtomicU64, Ordering};
@@ -69,28 +70,65 @@ impl Gate for Giving {
     }
 }
 
+// The team that owns what is given with this serial.
+fn team(serial: u64) -> &'static str {
+    match serial % 3 {
+        0 => "g0",
+        1 => "g1",
+        _ => "g2",
+    }
+}
+
+// An item of a Component with this name, owned by a team.
+fn component(alloc: Global, name: &str, team: &str) -> Result<String, AllocError> {
+    let begin =
+        "{\"entity\":{\"apiVersion\":\"backstage.io/v1alpha1\",\"kind\":\"Component\",\"metadata\":{\"name\":\"";
+    let spec = "\"},\"spec\":{\"type\":\"service\",\"lifecycle\":\"production\",\"owner\":\"";
+    [begin, name, spec, team, "\"}}},"].concat(alloc)
+}
+
+// An item of a Component that only this client gives, with this serial.
+fn own_component(alloc: Global, client: u64, serial: u64) -> Result<String, AllocError> {
+    let mut first = Buffer::new();
+    let mut second = Buffer::new();
+    let name = ["c", first.format(client), "-", second.format(serial)].concat(alloc)?;
+    component(alloc, name.as_str(), team(serial))
+}
+
+// An item of a Group with this name.
+fn group(alloc: Global, name: &str) -> Result<String, AllocError> {
+    let begin =
+        "{\"entity\":{\"apiVersion\":\"backstage.io/v1alpha1\",\"kind\":\"Group\",\"metadata\":{\"name\":\"";
+    [
+        begin,
+        name,
+        "\"},\"spec\":{\"type\":\"team\",\"children\":[]}}}",
+    ]
+    .concat(alloc)
+}
+
 // A delta of a Component that is new and of one that all clients give, each owned by one of three teams, with the team.
 fn delta(alloc: Global, client: u64, serial: u64) -> Result<String, AllocError> {
-    let begin = "{\"entity\":{\"apiVersion\":\"backstage.io/v1alpha1\",\"kind\":\"";
-    let team = serial % 3;
-    let owned = format!(in alloc;
-        "\"spec\":{{\"type\":\"service\",\"lifecycle\":\"production\",\"owner\":\"g{team}\"}}"
-    )?;
-    let owned = owned.as_str();
-    let own = format!(in alloc;
-        "{begin}Component\",\"metadata\":{{\"name\":\"c{client}-{serial}\"}},{owned}}}}}"
-    )?;
-    let all = format!(in alloc; "{begin}Component\",\"metadata\":{{\"name\":\"c\"}},{owned}}}}}")?;
-    let group = format!(in alloc;
-        "{begin}Group\",\"metadata\":{{\"name\":\"g{team}\"}},\"spec\":{{\"type\":\"team\",\"children\":[]}}}}}}"
-    )?;
-    format!(in alloc; "{{\"serial\":{serial},\"added\":[{own},{all},{group}],\"removed\":[]}}")
+    let mut buffer = Buffer::new();
+    let own = own_component(alloc, client, serial)?;
+    let all = component(alloc, "c", team(serial))?;
+    let group = group(alloc, team(serial))?;
+    let items = [own.as_str(), all.as_str(), group.as_str()].concat(alloc)?;
+    [
+        "{\"serial\":",
+        buffer.format(serial),
+        ",\"added\":[",
+        items.as_str(),
+        "],\"removed\":[]}",
+    ]
+    .concat(alloc)
 }
 
 // Gives all deltas of a client.
 fn give<R: Wait>(alloc: Global, client: &mut Client<'_, R>) -> Result<(), AllocError> {
     let number = client.number;
-    let provider = format!(in alloc; "p{number}")?;
+    let mut buffer = Buffer::new();
+    let provider = ["p", buffer.format(number)].concat(alloc)?;
     for serial in 1..=DELTAS {
         let text = delta(alloc, number, serial)?;
         if let Ok(mutation) = read_mutation(alloc, Form::Delta, text.as_bytes()) {
@@ -160,19 +198,24 @@ fn helpers<'a, R: Wait>(
     Ok(helpers)
 }
 
+// Puts numbers, and a space behind each, behind what stands so far.
+fn push_numbers(text: &mut Vec<u8>, numbers: &[u64]) -> Result<(), AllocError> {
+    let mut buffer = Buffer::new();
+    for number in numbers {
+        text.extend_from_slice(buffer.format(*number).as_bytes())?;
+        text.push(b' ')?;
+    }
+    Ok(())
+}
+
 // What a catalogue has: its documents, and what its numbers have come to.
 fn shown(alloc: Global, state: &State) -> Result<Vec<u8>, Fail> {
     let mut text = Vec::new(alloc);
     push_list(alloc, &mut text, &state.documents, &read_query(alloc, "")?)?;
-    let State {
-        arrival,
-        number,
-        token,
-        ticket,
-        ..
-    } = state;
-    let numbers = format!(in alloc; "{arrival} {number} {token} {ticket}")?;
-    text.extend_from_slice(numbers.as_bytes())?;
+    push_numbers(
+        &mut text,
+        &[state.arrival, state.number, state.token, state.ticket],
+    )?;
     Ok(text)
 }
 

@@ -11,8 +11,9 @@ use std::test::Fail;
 
 /// A connection that reads these bytes.
 fn conn(alloc: Global, bytes: &[u8]) -> Result<MemoryConn, AllocError> {
+    let bytes = bytes.to_vec(alloc)?;
     Ok(MemoryConn {
-        source: MemorySource::new(bytes.to_vec(alloc)?, 9, Vec::new(alloc)),
+        source: MemorySource::new(bytes, 9, Vec::new(alloc)),
         sink: MemorySink::new(9, Vec::new(alloc)),
     })
 }

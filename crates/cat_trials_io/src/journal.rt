@@ -45,28 +45,63 @@ fn loaded(alloc: Global, bytes: &[u8]) -> Result<String, AllocError> {
     }
 }
 
-#[test]
-fn a_batch_is_kept_in_a_journal(rt: HostRuntime) -> Result<(), Fail> {
-    let alloc = rt.alloc();
+// What puts one text on the shelf.
+fn batch(alloc: Global) -> Result<Batch, AllocError> {
     let mut batch: Batch = Map::new();
     let key = (Table::Shelf, Text::of(alloc, "file:/a")?);
     batch.put(alloc, key, Change::Put(Text::of(alloc, "\"{}\"")?))?;
+    Ok(batch)
+}
+
+// A journal of that batch: its first bytes, the gate byte, the length, the record, and the gate byte behind it.
+fn journal_bytes(alloc: Global) -> Result<Vec<u8>, AllocError> {
+    let length = 24u64.to_be_bytes();
+    [
+        b"CATJRNL1\x01".as_slice(),
+        length.as_slice(),
+        br#"[[4,"file:/a","\"{}\""]]"#.as_slice(),
+        b"\0".as_slice(),
+    ]
+    .concat(alloc)
+}
+
+// What a commit comes to before a load over an empty disk and after it, and what a crash leaves then.
+fn committed(alloc: Global, batch: &Batch) -> Result<([Committed; 2], Vec<u8>), AllocError> {
     let disk = MemoryDisk::new(Vec::new(alloc), Vec::new(alloc));
     let mut keeper = JournalKeeper::over(disk);
-    assert_eq!(rt; keeper.commit(alloc, &batch), Committed::Failed);
+    let early = keeper.commit(alloc, batch);
     let _rows = keeper.load(alloc, &Place::Nowhere);
-    assert_eq!(rt; keeper.commit(alloc, &batch), Committed::Kept);
-    let left = keeper.disk().crash(7, true)?;
-    let mut wanted = b"CATJRNL1\x01".to_vec(alloc)?;
-    wanted.extend_from_slice(&24u64.to_be_bytes())?;
-    wanted.extend_from_slice(br#"[[4,"file:/a","\"{}\""]]"#)?;
-    wanted.push(0)?;
+    let late = keeper.commit(alloc, batch);
+    let left = keeper.disk().crash(7, true);
+    drop(keeper);
+    Ok(([early, late], left?))
+}
+
+#[test]
+fn a_batch_is_kept_in_a_journal(rt: HostRuntime) -> Result<(), Fail> {
+    let alloc = rt.alloc();
+    let batch = batch(alloc)?;
+    let wanted = journal_bytes(alloc)?;
+    let (answers, left) = committed(alloc, &batch)?;
+    assert_eq!(rt; answers, [Committed::Failed, Committed::Kept]);
     assert_eq!(rt; left.as_slice(), wanted.as_slice());
-    assert_eq!(rt; loaded(alloc, &wanted)?.as_str(), "shelf file:/a=\"{}\";");
-    assert_eq!(rt;
-        loaded(alloc, &wanted[..41])?.as_str(),
-        "counters arrival=1;counters journal 8=;"
-    );
-    assert_eq!(rt; loaded(alloc, &wanted[..9])?.as_str(), "");
+    Ok(())
+}
+
+// How many bytes of the journal are there, and what a load of them gives.
+const FRONTS: [(usize, &str); 3] = [
+    (42, "shelf file:/a=\"{}\";"),
+    (41, "counters arrival=1;counters journal 8=;"),
+    (9, ""),
+];
+
+#[test]
+fn fronts_of_a_journal_are_loaded(rt: HostRuntime) -> Result<(), Fail> {
+    let alloc = rt.alloc();
+    let bytes = journal_bytes(alloc)?;
+    for (length, rows) in FRONTS.iter() {
+        let front = bytes.as_slice().get(..*length).unwrap_or(&[]);
+        assert_eq!(rt; loaded(alloc, front)?.as_str(), *rows);
+    }
     Ok(())
 }

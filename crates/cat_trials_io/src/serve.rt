@@ -8,7 +8,7 @@ use std::alloc::{AllocError, Global};
 use std::sync::Wait;
 use std::sync::atomic::{AtomicU64, Ordering};
 use std::test::Fail;
-use std::thread::yield_now;
+use std::thread::{Threads, yield_now};
 
 /// How often a server looks for another one before it gives up.
 const MOST_LOOKS: u64 = 1_000_000;
@@ -75,51 +75,93 @@ impl Worker for Idler {
     }
 }
 
+/// A connection that reads one byte.
+fn conn(alloc: Global, byte: u8) -> Result<MemoryConn, AllocError> {
+    let bytes = vec![in alloc; byte]?;
+    Ok(MemoryConn {
+        source: MemorySource::new(bytes, 9, Vec::new(alloc)),
+        sink: MemorySink::new(9, Vec::new(alloc)),
+    })
+}
+
 /// Doors with a connection for each of these bytes, that fail one call.
 fn doors(alloc: Global, bytes: &[u8], failing: u64) -> Result<MemoryDoors, AllocError> {
     let mut conns = Vec::new(alloc);
     for byte in bytes {
-        conns.push(MemoryConn {
-            source: MemorySource::new(vec![in alloc; *byte]?, 9, Vec::new(alloc)),
-            sink: MemorySink::new(9, Vec::new(alloc)),
-        })?;
+        conns.push(conn(alloc, *byte)?)?;
     }
     Ok(MemoryDoors::new(conns, vec![in alloc; failing]?))
 }
 
+type Helpers<'a> = Vec<Helper<Greeter<'a>, Idler>>;
+
+/// Puts so many servers behind the helpers so far, each of which waits until so many connections have come.
+fn push_greeters<'a>(
+    helpers: &mut Helpers<'a>,
+    came: &'a AtomicU64,
+    count: u64,
+    awaited: u64,
+) -> Result<(), AllocError> {
+    for _ in 0..count {
+        helpers.push(Helper::Serves(Greeter {
+            greeted: 0,
+            came,
+            awaited,
+            met: true,
+        }))?;
+    }
+    Ok(())
+}
+
+/// How many connections the servers greeted, if none waited in vain and each idler has ended.
+fn greeted(helpers: &[Helper<Greeter<'_>, Idler>]) -> Option<u64> {
+    let mut greeted = 0u64;
+    for helper in helpers.iter() {
+        match helper {
+            Helper::Serves(greeter) if greeter.met => greeted = greeted.saturating_add(
+                greeter.greeted,
+            ),
+            Helper::Works(idler) if idler.ended => {}
+            _ => return None,
+        }
+    }
+    Some(greeted)
+}
+
+/// Why no more connections came in, and how many were greeted, where so many servers wait for so many connections, beside one that rests.
+fn served<R: Threads + Wait + Sync>(
+    rt: &R,
+    alloc: Global,
+    doors: &mut MemoryDoors,
+    servers: u64,
+    awaited: u64,
+) -> Result<(Ended, Option<u64>), AllocError> {
+    let came = AtomicU64::new(0);
+    let mut helpers = Vec::new(alloc);
+    push_greeters(&mut helpers, &came, servers, awaited)?;
+    helpers.push(Helper::Works(Idler { ended: false }))?;
+    let ended = serve(rt, doors, helpers.as_mut_slice());
+    Ok((ended, greeted(helpers.as_slice())))
+}
+
+/// The connections, the accept that fails, how many servers there are, why no more came in, and how many were greeted.
+const CASES: [(&[u8], u64, u64, Ended, u64); 5] = [
+    (b"", 0, 1, Ended::Closed, 0),
+    (b"abc", 0, 1, Ended::Closed, 3),
+    (b"abcde", 0, 3, Ended::Closed, 5),
+    (b"abc", 3, 2, Ended::Failed, 2),
+    (b"abc", 0, 0, Ended::Closed, 0),
+];
+
 #[test]
 fn each_connection_is_served_once(rt: HostRuntime) -> Result<(), Fail> {
     let alloc = rt.alloc();
-    // The connections, the accept that fails, how many servers there are, why no more came in, and how many were served.
-    let cases: [(&[u8], u64, u64, Ended, u64); 5] = [
-        (b"", 0, 1, Ended::Closed, 0),
-        (b"abc", 0, 1, Ended::Closed, 3),
-        (b"abcde", 0, 3, Ended::Closed, 5),
-        (b"abc", 3, 2, Ended::Failed, 2),
-        (b"abc", 0, 0, Ended::Closed, 0),
-    ];
-    for (bytes, failing, servers, ended, served) in cases.iter() {
-        let came = AtomicU64::new(0);
-        let mut helpers = Vec::new(alloc);
-        for _ in 0..*servers {
-            helpers.push(Helper::Serves(Greeter {
-                greeted: 0,
-                came: &came,
-                awaited: 0,
-                met: true,
-            }))?;
-        }
-        helpers.push(Helper::Works(Idler { ended: false }))?;
+    for (bytes, failing, servers, ended, count) in CASES.iter() {
         let mut doors = doors(alloc, bytes, *failing)?;
-        assert_eq!(rt; serve(&rt, &mut doors, helpers.as_mut_slice()), *ended);
-        let mut greeted = 0u64;
-        for helper in helpers.iter() {
-            match helper {
-                Helper::Serves(greeter) => greeted = greeted.saturating_add(greeter.greeted),
-                Helper::Works(idler) => assert!(rt; idler.ended),
-            }
-        }
-        assert_eq!(rt; greeted, *served);
+        assert_eq!(rt;
+            served(&rt, alloc, &mut doors, *servers, 0)?,
+            (*ended, Some(*count))
+        );
     }
     Ok(())
 }
@@ -127,26 +169,10 @@ fn each_connection_is_served_once(rt: HostRuntime) -> Result<(), Fail> {
 #[test]
 fn servers_run_beside_each_other(rt: HostRuntime) -> Result<(), Fail> {
     let alloc = rt.alloc();
-    let came = AtomicU64::new(0);
-    let mut helpers: Vec<Helper<Greeter, Idler>> = Vec::new(alloc);
-    for _ in 0..2 {
-        helpers.push(Helper::Serves(Greeter {
-            greeted: 0,
-            came: &came,
-            awaited: 2,
-            met: true,
-        }))?;
-    }
     let mut doors = doors(alloc, b"ab", 0)?;
     assert_eq!(rt;
-        serve(&rt, &mut doors, helpers.as_mut_slice()),
-        Ended::Closed
+        served(&rt, alloc, &mut doors, 2, 2)?,
+        (Ended::Closed, Some(2))
     );
-    for helper in helpers.iter() {
-        if let Helper::Serves(greeter) = helper {
-            assert!(rt; greeter.met);
-            assert_eq!(rt; greeter.greeted, 1);
-        }
-    }
     Ok(())
 }

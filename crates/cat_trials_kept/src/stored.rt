@@ -8,6 +8,7 @@ use cat_keeper::table::Table;
 use cat_sittings::cat_stored::{Ran, run_stored, run_stored_connection};
 use cat_table::map::Map;
 use cat_tree::text::Text;
+use itoa::Buffer;
 use std::alloc::{AllocError, Global};
 use std::test::Fail;
 
@@ -101,44 +102,46 @@ fn what_is_kept_is_there_again(rt: HostRuntime) -> Result<(), Fail> {
     Ok(())
 }
 
-// What a provider gives: a Component of this number, with this owner.
-fn component(alloc: Global, number: u64, owner: &str) -> Result<String, AllocError> {
-    format!(in alloc;
-        "{{\"entity\":{{\"apiVersion\":\"backstage.io/v1alpha1\",\"kind\":\"Component\",\"metadata\":{{\"name\":\"c{number}\"}},\"spec\":{{\"type\":\"service\",\"lifecycle\":\"production\",\"owner\":\"{owner}\"}}}}}}"
-    )
-}
-
-// Appends a Component of this number, with this owner.
+// Appends what a provider gives: a Component of this number, with this owner.
 fn push_component(
     alloc: Global,
     lines: &mut String,
     number: u64,
     owner: &str,
 ) -> Result<(), AllocError> {
-    let given = component(alloc, number, owner)?;
+    let begin =
+        "{\"entity\":{\"apiVersion\":\"backstage.io/v1alpha1\",\"kind\":\"Component\",\"metadata\":{\"name\":\"c";
+    let spec = "\"},\"spec\":{\"type\":\"service\",\"lifecycle\":\"production\",\"owner\":\"";
+    let mut buffer = Buffer::new();
+    let given = [begin, buffer.format(number), spec, owner, "\"}}}"].concat(alloc)?;
     lines.push_str(given.as_str())
 }
 
-// Lines that give 40 Components, settle them, give one of them another owner, and settle that.
-fn forty(alloc: Global) -> Result<String, AllocError> {
-    let mut lines = String::new(alloc);
-    lines.push_str("full git {\"serial\":1,\"entities\":[")?;
-    push_component(alloc, &mut lines, 0, "a")?;
+// Appends the Components of the numbers up to 39, with commas between them.
+fn push_components(alloc: Global, lines: &mut String) -> Result<(), AllocError> {
+    push_component(alloc, lines, 0, "a")?;
     for number in 1..40u64 {
         lines.push_str(",")?;
-        push_component(alloc, &mut lines, number, "a")?;
+        push_component(alloc, lines, number, "a")?;
     }
+    Ok(())
+}
+
+// Appends lines that give 40 Components, settle them, give one of them another owner, and settle that.
+fn push_forty(alloc: Global, lines: &mut String) -> Result<(), AllocError> {
+    lines.push_str("full git {\"serial\":1,\"entities\":[")?;
+    push_components(alloc, lines)?;
     lines.push_str("]}\nsettle\ndelta git {\"serial\":2,\"added\":[")?;
-    push_component(alloc, &mut lines, 7, "b")?;
-    lines.push_str("],\"removed\":[]}\nsettle\nlist\n")?;
-    Ok(lines)
+    push_component(alloc, lines, 7, "b")?;
+    lines.push_str("],\"removed\":[]}\nsettle\nlist\n")
 }
 
 // The second settle reaches one Component of 40, and the store follows it there: a second session's documents are those with which the first one ended.
 #[test]
 fn what_settles_reached_is_kept(rt: HostRuntime) -> Result<(), Fail> {
     let alloc = rt.alloc();
-    let lines = forty(alloc)?;
+    let mut lines = String::new(alloc);
+    push_forty(alloc, &mut lines)?;
     let (ran, first) = session_over(alloc, keeper_of(alloc, &[], 0)?, lines.as_bytes())?;
     let (_, second) = session_over(alloc, ran.keeper, b"list\n")?;
     let replies: &[u8] = b"ok\nsettled 1 40 40\nok\nsettled 1 1 1\n";
