@@ -1,8 +1,8 @@
-"""What the names in a source stand for: the `use` lines of specs/*.antt and src/*.rt, followed to the definitions of this repository or
-to names of other crates. A crate that is handed on is meant itself, whichever crates stand before it in a path."""
+"""What the names in a source stand for: the `use` lines of specs/*.antt and src/*.rt, followed to the definitions of this repository
+or to names of other crates."""
 import copy, functools, os, re
 from collections import namedtuple
-from sources import TOP, below_top, crates, is_library, rust_definitions, spec_definitions
+from sources import TOP, below_top, crates, rust_definitions, spec_definitions
 
 # a name of std, of a kit crate or of the logic
 Outside = namedtuple('Outside', 'crate module name')
@@ -11,16 +11,6 @@ Lemma = namedtuple('Lemma', 'crate module name')
 
 USE = re.compile(r'^\s*(?:ghost |pub )?use ([\w.:]+?)(?:(?:\.|::)\{([^}]*)\})?(?: as (\w+))?;?$')
 OURS = set(crates())
-LIBRARIES = {crate for crate in OURS if is_library(crate)}
-
-
-def at_home(path):
-    """The path without the crates that only hand on: `Rattle.K.specs.D.rest` is `Rattle.D.rest`, and `K::D::rest` is `D::rest`."""
-    if path[:1] == ('Rattle',) and path[2:3] == ('specs',) and path[3:4] and path[3] in LIBRARIES:
-        return at_home(('Rattle', *path[3:]))
-    if path[:1] and path[0] in OURS and path[1:2] and path[1] in LIBRARIES:
-        return at_home(path[1:])
-    return path
 
 
 def imports(lines):
@@ -31,7 +21,7 @@ def imports(lines):
         if not match:
             continue
         path, names, alias = match.groups()
-        is_rust, path = '::' in path, at_home(tuple(re.split(r'\.|::', path)))
+        is_rust, path = '::' in path, tuple(re.split(r'\.|::', path))
         if names is None and is_rust:
             found[alias or path[-1]] = (path[:-1], path[-1])
         elif names is None:

@@ -18,10 +18,6 @@ def crates():
     return [line.split(':')[0] for line in lines if ':' in line and not line.startswith('#')]
 
 
-def is_library(crate):
-    return os.path.isfile(os.path.join(TOP, 'crates', crate, 'src', 'lib.rt'))
-
-
 def spec_files(crate):
     return sorted(glob.glob(os.path.join(TOP, 'crates', crate, 'specs', '**', '*.antt'), recursive=True))
 

@@ -5,7 +5,7 @@ use Rattle.std.specs.Fmt.{decimal}
 use Rattle.std.proofs.Common.{inl, inr}
 use Rattle.std.proofs.lemmas.Bool.Decides.{eqb_tells}
 use Rattle.std.proofs.lemmas.Fmt.{length-decimal-le}
-use Rattle.cat_fed.specs.cat_changes.specs.Place.{since_text}
+use Rattle.cat_feed.specs.Place.{since_text}
 use Rattle.cat_feed.specs.declared.change.Since.{Since}
 use Rattle.cat_http.specs.Errors.{error_body}
 use Rattle.cat_http.specs.Reply.{is_named, phrase_of, status_line, content_lines, allow_line, close_line, end_of, reply_bytes}
@@ -16,8 +16,8 @@ use Rattle.cat_model.specs.declared.types.Acted.TheVariants.{Now, Again}
 use Rattle.cat_model.specs.declared.types.Counter.{Counter}
 use Rattle.cat_model.specs.declared.types.Counter.TheVariants.{Arrival, Number, Token, Ticket}
 use Rattle.cat_model.specs.declared.types.Counts.{Counts}
-use Rattle.cat_requests.specs.cat_replies.specs.Events.{counter_text}
-use Rattle.cat_requests.specs.cat_replies.specs.Line.{joined}
+use Rattle.cat_replies.specs.Events.{counter_text}
+use Rattle.cat_replies.specs.Line.{joined}
 use Rattle.cat_requests.specs.Answers.{answer_body, answer_allow, counts_body, acted_body, reply_to, IsShort, IsShortRefusal}
 use Rattle.cat_requests.specs.Refusals.{allowed, status_of, words_of}
 use Rattle.cat_requests.specs.declared.answer.Answer.{Answer}

@@ -2,14 +2,14 @@
 use Rattle.std.proofs.Common.{◌≡◌, ℕ, true, false, refl, sym, ap, ◌∙◌}
 use Rattle.std.specs.declared.option.Option.{Option}
 use Rattle.std.specs.declared.option.Option.TheVariants.{None, Some}
-use Rattle.cat_fed.specs.cat_desk.specs.cat_core.specs.Answer.{stop_answer}
-use Rattle.cat_fed.specs.cat_desk.specs.cat_core.specs.declared.ledger.Ledger.{Ledger}
-use Rattle.cat_fed.specs.cat_desk.specs.Acts.{Acts, after_deed, answered, deed_reply, or_refused, settle_reply, settled_as}
-use Rattle.cat_fed.specs.cat_desk.specs.Deed.{Deed}
-use Rattle.cat_fed.specs.cat_desk.specs.Deed.Deed.{Mutate, ShelfPut, ShelfDrop, Refresh, Forget, ForgetNumber, Take, Finish, TakeStitch, PutStitch, Settle}
-use Rattle.cat_fed.specs.cat_desk.specs.declared.command.Reply.{Reply}
-use Rattle.cat_fed.specs.cat_desk.specs.declared.command.Reply.TheVariants as replies
-use Rattle.cat_loop.specs.Word.{Word, plain, memory, cut, unkept, cut_unkept}
+use Rattle.cat_core.specs.Answer.{stop_answer}
+use Rattle.cat_core.specs.declared.ledger.Ledger.{Ledger}
+use Rattle.cat_desk.specs.Acts.{Acts, after_deed, answered, deed_reply, or_refused, settle_reply, settled_as}
+use Rattle.cat_desk.specs.Deed.{Deed}
+use Rattle.cat_desk.specs.Deed.Deed.{Mutate, ShelfPut, ShelfDrop, Refresh, Forget, ForgetNumber, Take, Finish, TakeStitch, PutStitch, Settle}
+use Rattle.cat_desk.specs.declared.command.Reply.{Reply}
+use Rattle.cat_desk.specs.declared.command.Reply.TheVariants as replies
+use Rattle.cat_io.specs.Word.{Word, plain, memory, cut, unkept, cut_unkept}
 use Rattle.cat_model.specs.Catalogue.{Rules}
 use Rattle.cat_model.specs.Settle.{try_settle}
 use Rattle.cat_model.specs.Reply.{acted, finished, placed, taken}

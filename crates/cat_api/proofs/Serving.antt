@@ -3,16 +3,16 @@ use Rattle.std.proofs.Common.{◌≡◌, ◌≢◌, ◌⊎◌, ℕ, List, refl, 
 use Rattle.std.specs.Prelude.{if◌then◌else◌, Option}
 use Rattle.std.specs.declared.result.Result.{Result}
 use Rattle.std.specs.declared.result.Result.TheVariants.{Ok, Err}
-use Rattle.cat_fed.specs.cat_desk.specs.cat_core.specs.declared.ledger.Ledger.{Ledger}
-use Rattle.cat_fed.specs.cat_desk.specs.Acts.{Acts, ActsOnce, after_deed, deed_reply}
-use Rattle.cat_fed.specs.cat_desk.specs.Asks.{AsksOnce, IsAnswer}
-use Rattle.cat_fed.specs.cat_desk.specs.Deed.{Deed}
-use Rattle.cat_fed.specs.cat_desk.specs.declared.command.Asked.{Asked}
-use Rattle.cat_fed.specs.cat_desk.specs.declared.command.Asked.TheVariants.{Written, NotFound, NoFacet, NoMemory}
-use Rattle.cat_fed.specs.cat_desk.specs.declared.command.Reply.{Reply}
-use Rattle.cat_fed.specs.Told.{Tells}
-use Rattle.cat_fed.specs.declared.desk.FeedAnswer.{FeedAnswer}
-use Rattle.cat_fed.specs.declared.desk.FeedAnswer.TheVariants as told
+use Rattle.cat_core.specs.declared.ledger.Ledger.{Ledger}
+use Rattle.cat_desk.specs.Acts.{Acts, ActsOnce, after_deed, deed_reply}
+use Rattle.cat_desk.specs.Asks.{AsksOnce, IsAnswer}
+use Rattle.cat_desk.specs.Deed.{Deed}
+use Rattle.cat_desk.specs.declared.command.Asked.{Asked}
+use Rattle.cat_desk.specs.declared.command.Asked.TheVariants.{Written, NotFound, NoFacet, NoMemory}
+use Rattle.cat_desk.specs.declared.command.Reply.{Reply}
+use Rattle.cat_desk.specs.Told.{Tells}
+use Rattle.cat_desk.specs.declared.feed_desk.FeedAnswer.{FeedAnswer}
+use Rattle.cat_desk.specs.declared.feed_desk.FeedAnswer.TheVariants as told
 use Rattle.cat_feed.specs.Changes.{Documents}
 use Rattle.cat_feed.specs.Feed.{asked, feed_after, is_taken, taken_in}
 use Rattle.cat_feed.specs.declared.change.Changes.{Changes}
@@ -23,11 +23,11 @@ use Rattle.cat_feed.specs.declared.ledger.Ledger.{Ledger as Feed}
 use Rattle.cat_http.specs.Reply.{reply_bytes}
 use Rattle.cat_http.specs.declared.message.Message.{Message}
 use Rattle.cat_http.specs.declared.reply.HttpReply.{HttpReply}
-use Rattle.cat_loop.specs.Word as deeds
+use Rattle.cat_io.specs.Word as deeds
 use Rattle.cat_model.specs.Catalogue.{Rules}
 use Rattle.cat_model.specs.declared.types.State.{State}
 use Rattle.cat_query.specs.declared.ask.Ask.{Ask as Question}
-use Rattle.cat_requests.specs.cat_replies.specs.Asks.{AskFault, ask_text}
+use Rattle.cat_replies.specs.Asks.{AskFault, ask_text}
 use Rattle.cat_api.specs.Answering.{Acting, Asking, Telling, Carries, Answers, AnswersBytes, LacksIn, Lacks}
 use Rattle.cat_api.specs.Deeds.{act_answer, ask_answer, asked_answer, changes_answer, told_answer}
 use Rattle.cat_api.specs.Operations.{Operation, operation}

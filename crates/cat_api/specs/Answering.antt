@@ -1,12 +1,12 @@
 -- What a desk does with a message.
 use Rattle.std.specs.Prelude.{◌≡◌, ◌≢◌, ◌⊎◌, ℕ, true, false, List, Result, Ok, Err}
 use Rattle.std.specs.declared.option.Option.{Option}
-use Rattle.cat_fed.specs.cat_desk.specs.Deed.{Deed}
-use Rattle.cat_fed.specs.cat_desk.specs.declared.command.Asked.{Asked}
-use Rattle.cat_fed.specs.cat_desk.specs.declared.command.Asked.TheVariants as asked
-use Rattle.cat_fed.specs.cat_desk.specs.declared.command.Reply.{Reply}
-use Rattle.cat_fed.specs.declared.desk.FeedAnswer.{FeedAnswer}
-use Rattle.cat_fed.specs.declared.desk.FeedAnswer.TheVariants as told
+use Rattle.cat_desk.specs.Deed.{Deed}
+use Rattle.cat_desk.specs.declared.command.Asked.{Asked}
+use Rattle.cat_desk.specs.declared.command.Asked.TheVariants as asked
+use Rattle.cat_desk.specs.declared.command.Reply.{Reply}
+use Rattle.cat_desk.specs.declared.feed_desk.FeedAnswer.{FeedAnswer}
+use Rattle.cat_desk.specs.declared.feed_desk.FeedAnswer.TheVariants as told
 use Rattle.cat_feed.specs.declared.change.Since.{Since}
 use Rattle.cat_http.specs.Reply.{reply_bytes}
 use Rattle.cat_http.specs.declared.message.Message.{Message}

@@ -1,20 +1,20 @@
 -- How what a desk says becomes an answer.
 use Rattle.std.specs.Prelude.{ℕ, Bool, true, false, List, Result, Ok, Err}
-use Rattle.cat_fed.specs.cat_desk.specs.cat_core.specs.declared.fault.CoreFault.{CoreFault}
-use Rattle.cat_fed.specs.cat_desk.specs.cat_core.specs.declared.fault.CoreFault.TheVariants as core
-use Rattle.cat_fed.specs.cat_desk.specs.declared.command.Asked.{Asked}
-use Rattle.cat_fed.specs.cat_desk.specs.declared.command.Asked.TheVariants as asked
-use Rattle.cat_fed.specs.cat_desk.specs.declared.command.Reply.{Reply}
-use Rattle.cat_fed.specs.cat_desk.specs.declared.command.Reply.TheVariants as replies
+use Rattle.cat_core.specs.declared.fault.CoreFault.{CoreFault}
+use Rattle.cat_core.specs.declared.fault.CoreFault.TheVariants as core
+use Rattle.cat_desk.specs.declared.command.Asked.{Asked}
+use Rattle.cat_desk.specs.declared.command.Asked.TheVariants as asked
+use Rattle.cat_desk.specs.declared.command.Reply.{Reply}
+use Rattle.cat_desk.specs.declared.command.Reply.TheVariants as replies
 use Rattle.cat_tree.specs.Text.{text_of}
 use Rattle.cat_feed.specs.declared.change.Changes.{Changes}
 use Rattle.cat_feed.specs.declared.fault.FeedFault.{FeedFault}
 use Rattle.cat_feed.specs.declared.fault.FeedFault.TheVariants as feed
-use Rattle.cat_fed.specs.cat_changes.specs.Written.{changes_data}
-use Rattle.cat_fed.specs.declared.desk.FeedAnswer.{FeedAnswer}
-use Rattle.cat_fed.specs.declared.desk.FeedAnswer.TheVariants as told
-use Rattle.cat_requests.specs.cat_replies.specs.Asks.{AskFault}
-use Rattle.cat_requests.specs.cat_replies.specs.Asks.AskFault.{not_found, no_facet}
+use Rattle.cat_feed.specs.Written.{changes_data}
+use Rattle.cat_desk.specs.declared.feed_desk.FeedAnswer.{FeedAnswer}
+use Rattle.cat_desk.specs.declared.feed_desk.FeedAnswer.TheVariants as told
+use Rattle.cat_replies.specs.Asks.{AskFault}
+use Rattle.cat_replies.specs.Asks.AskFault.{not_found, no_facet}
 use Rattle.cat_api.specs.declared.kind.Kind.{Kind}
 use Rattle.cat_api.specs.declared.kind.Kind.TheVariants.{Mutation, Shelving, Refreshing, Forgetting, Settling}
 use Rattle.cat_requests.specs.declared.answer.Answer.{Answer}

@@ -3,5 +3,3 @@ pub mod Operations
 pub mod Wire
 pub mod Answering
 pub mod Room
-pub use Rattle.cat_fed
-pub use Rattle.cat_requests

@@ -1,7 +1,7 @@
 -- What a request asks of a desk.
 use Rattle.std.specs.declared.option.Option.{Option}
-use Rattle.cat_fed.specs.cat_desk.specs.Deed.{Deed, deed}
-use Rattle.cat_fed.specs.cat_desk.specs.Deed.Deed.{Mutate as Mutated, ShelfPut as PutOnShelf, ShelfDrop as DroppedFromShelf, Refresh as Refreshed, ForgetNumber as NumberForgotten, Settle as Settles}
+use Rattle.cat_desk.specs.Deed.{Deed, deed}
+use Rattle.cat_desk.specs.Deed.Deed.{Mutate as Mutated, ShelfPut as PutOnShelf, ShelfDrop as DroppedFromShelf, Refresh as Refreshed, ForgetNumber as NumberForgotten, Settle as Settles}
 use Rattle.cat_feed.specs.declared.change.Since.{Since}
 use Rattle.cat_model.specs.Given.{given}
 use Rattle.cat_model.specs.declared.types.Order.{Order}

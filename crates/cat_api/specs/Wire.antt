@@ -1,15 +1,15 @@
 -- What a message does to the catalogue and its feed at the moment 0, and the bytes of the reply.
 use Rattle.std.specs.Prelude.{Result, Ok, Err}
-use Rattle.cat_fed.specs.cat_desk.specs.cat_core.specs.declared.ledger.Ledger.{Ledger}
-use Rattle.cat_fed.specs.cat_desk.specs.Acts.{after_deed, deed_reply}
+use Rattle.cat_core.specs.declared.ledger.Ledger.{Ledger}
+use Rattle.cat_desk.specs.Acts.{after_deed, deed_reply}
 use Rattle.cat_feed.specs.Feed.{asked, feed_after}
 use Rattle.cat_feed.specs.declared.ledger.Ledger.{Ledger as Feed}
 use Rattle.cat_http.specs.Reply.{reply_bytes}
-use Rattle.cat_loop.specs.Word as deeds
+use Rattle.cat_io.specs.Word as deeds
 use Rattle.cat_model.specs.Catalogue.{Rules}
 use Rattle.cat_model.specs.declared.types.Settings.{Settings}
 use Rattle.cat_model.specs.declared.types.State.{State}
-use Rattle.cat_requests.specs.cat_replies.specs.Asks.{ask_text}
+use Rattle.cat_replies.specs.Asks.{ask_text}
 use Rattle.cat_api.specs.Deeds.{act_answer, ask_answer, changes_answer}
 use Rattle.cat_api.specs.Operations.{Operation, operation}
 use Rattle.cat_api.specs.Operations.Operation.{Act, Ask, Tell}

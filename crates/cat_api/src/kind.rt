@@ -3,8 +3,8 @@ ghost use Rattle.std.specs.Prelude.{◌≡◌};
 ghost use Rattle.cat_api.specs.Deeds as spec;
 ghost use Rattle.cat_requests.specs.Answers.{IsShort, IsShortRefusal};
 
-use cat_fed::cat_desk::cat_core::fault::{CoreFault, Cut};
-use cat_fed::cat_desk::command::Reply;
+use cat_core::fault::{CoreFault, Cut};
+use cat_desk::command::Reply;
 use cat_requests::answer::Answer;
 use cat_requests::refusal::Refusal;
 

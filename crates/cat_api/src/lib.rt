@@ -6,7 +6,7 @@
 //! written are the replies to what the desk answered, which its own relations lead on in the order of the messages. Of a catalogue
 //! with a feed at the moment 0 they are those of `wire_reply`.
 //!
-//! It stands on cat_requests for what messages ask and how they are answered, on cat_desk and cat_fed for what desks are, and on
+//! It stands on cat_requests for what messages ask and how they are answered, on cat_desk for what desks are, and on
 //! cat_wire for the trait of what answers messages.
 #![tactic(auto)]
 
@@ -15,7 +15,3 @@ pub mod kind;
 mod room;
 pub mod service;
 pub mod task;
-
-// What this crate stands on and hands on.
-pub use cat_fed;
-pub use cat_requests;

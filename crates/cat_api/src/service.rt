@@ -4,7 +4,7 @@ ghost use Rattle.cat_api.specs.Answering.{AnswersBytes, Lacks};
 ghost use Rattle.cat_requests.specs.Requests.{request_of};
 
 use crate::answer::answer;
-use cat_fed::desk::FeedDesk;
+use cat_desk::feed_desk::FeedDesk;
 use cat_http::message::Message;
 use cat_http::reply::write_reply;
 use cat_wire::Machine;

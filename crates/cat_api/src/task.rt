@@ -5,7 +5,7 @@ ghost use Rattle.cat_model.specs.declared.types.Order.{Order};
 ghost use Rattle.cat_model.specs.declared.types.StitchOrder.{StitchOrder};
 
 use crate::kind::Kind;
-use cat_fed::cat_desk::command::Command;
+use cat_desk::command::Command;
 use cat_feed::change::Since;
 use cat_query::ask::Ask;
 use cat_requests::request::Request;

@@ -4,4 +4,3 @@ pub mod Rules
 pub mod First
 pub mod Named
 pub mod Difference
-pub use Rattle.cat_opening

@@ -6,7 +6,7 @@ use Rattle.std.specs.List.{list_all, sum_by}
 use Rattle.cat_tree.specs.Data.{Data}
 use Rattle.cat_tree.specs.Text.{text_of}
 use Rattle.cat_table.specs.Table.{Text, text_cmp}
-use Rattle.cat_opening.specs.cat_model.specs.Catalogue.{Ref}
+use Rattle.cat_model.specs.Catalogue.{Ref}
 use Rattle.cat_opening.specs.Forms.{is_entity, may_be_given}
 use Rattle.cat_rows.specs.declared.row.StoredCounter.{StoredCounter}
 use Rattle.cat_rows.specs.declared.row.StoredCounter.TheVariants.{Arrival, Number}

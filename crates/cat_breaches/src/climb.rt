@@ -4,7 +4,7 @@ ghost use Rattle.cat_breaches.specs.Rules as spec;
 ghost use Rattle.cat_breaches.specs.Told.{asked};
 
 use crate::told::{Given, Giver, Told};
-use cat_ref::reference::Ref;
+use cat_types::reference::Ref;
 
 /// What is above a row: the provider that gave it, the row that holds the record that gave it, or nothing.
 #[derive(Clone, Copy, Drop)]

@@ -20,6 +20,3 @@ mod rules;
 mod tellers;
 mod told;
 mod weigh;
-
-// What this crate stands on and hands on.
-pub use cat_opening;

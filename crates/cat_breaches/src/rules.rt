@@ -9,12 +9,12 @@ use crate::climb::is_rooted;
 use crate::noted::noted;
 use crate::told::Told;
 use cat_opening::entity::{is_entity, may_be_given};
-use cat_ref::reference::Ref;
 use cat_rows::row::{StoredCounter, StoredOffer, StoredOutput, StoredRow};
 use cat_table::listing::Copied;
 use cat_table::map::Map;
 use cat_tree::text::Text;
 use cat_types::node::Node;
+use cat_types::reference::Ref;
 use std::alloc::{AllocError, Global};
 
 /// The greatest next number of a counter.

@@ -4,11 +4,11 @@ ghost use Rattle.cat_breaches.specs.Told as spec;
 
 use crate::collect::Tells;
 use crate::told::{Given, Giver};
-use cat_ref::reference::Ref;
 use cat_rows::row::{OrphanRule, StoredCounter, StoredOffer, StoredOutput, StoredRow};
 use cat_table::listing::Copied;
 use cat_tree::text::Text;
 use cat_types::node::Node;
+use cat_types::reference::Ref;
 use std::alloc::{AllocError, Global};
 
 /// The next arrival number.

@@ -9,11 +9,11 @@ ghost use Rattle.cat_table.specs.Table.{find, text_cmp};
 use crate::collect::collected;
 use crate::noted::{firsts, noted};
 use crate::tellers::{Arrivals, Drawn, Gives, Holders, Numbers, Orphans, Rules, Serials, Trees};
-use cat_ref::reference::Ref;
 use cat_rows::row::StoredRow;
 use cat_table::map::Map;
 use cat_tree::text::Text;
 use cat_types::node::Node;
+use cat_types::reference::Ref;
 use std::alloc::{AllocError, Global};
 
 /// Who gave an item or an offer: a provider, or the record of a reference.

@@ -3,11 +3,11 @@ use cat_commands::fault::LineFault;
 use cat_inputs::fault::{InputFault, ShelfFault};
 use cat_query::facets::FacetFault;
 use cat_query::fault::QueryFault;
-use cat_ref::fault::RefFault;
 use cat_rows::row::RowFault;
 use cat_search::condition::FilterFault;
 use cat_target::target::TargetFault;
 use cat_tree::read::TreeFault;
+use cat_types::fault::RefFault;
 use std::alloc::AllocError;
 use thiserror::Error;
 

@@ -5,12 +5,12 @@ use crate::shown::{push_counted, push_gap, push_texts, push_word};
 use cat_feed::change::{Change, Changes, Since};
 use cat_feed::fault::FeedFault;
 use cat_feed::feed::Feed;
-use cat_mirror::mirror::Mirror;
-use cat_ref::reference::{Ref, parse};
+use cat_feed::mirror::Mirror;
 use cat_table::listing::Listing;
 use cat_table::map::Map;
 use cat_tree::tree::Tree;
 use cat_types::node::Node;
+use cat_types::reference::{Ref, parse};
 use std::alloc::{AllocError, Global};
 
 type Documents = Map<Ref, Node>;

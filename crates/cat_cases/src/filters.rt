@@ -2,13 +2,13 @@
 use crate::case::Case;
 use crate::fault::Fault;
 use crate::shown::truth_text;
-use cat_ref::reference::{Ref, parse};
 use cat_search::condition::Filter;
 use cat_search::index::{Index, find, list_pending};
 use cat_search::matches::matches;
 use cat_search::read::read_filter;
 use cat_tree::read::read;
 use cat_types::node::Node;
+use cat_types::reference::{Ref, parse};
 use std::alloc::{AllocError, Global};
 
 // Puts the filter of a text behind those so far.

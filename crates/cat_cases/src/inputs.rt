@@ -5,9 +5,9 @@ use crate::shown::{push_counted, push_texts, push_word};
 use cat_inputs::form::Form;
 use cat_inputs::input::read_mutation;
 use cat_inputs::shelf::{Listed, shelf_list};
-use cat_ref::reference::Ref;
 use cat_tree::text::Text;
 use cat_types::input::{Item, Mutation};
+use cat_types::reference::Ref;
 use std::alloc::{AllocError, Global};
 
 // A key, or that there is none.

@@ -5,8 +5,8 @@ use crate::shown::push_texts;
 use cat_kinds::Relation;
 use cat_kinds::answer::{KindAnswer, KindFault, relations};
 use cat_kinds::mention::{Mention, mentions};
-use cat_ref::reference::{Ref, ref_of};
 use cat_tree::tree::Tree;
+use cat_types::reference::{Ref, ref_of};
 use std::alloc::{AllocError, Global};
 
 // Puts a relation behind what stands so far.

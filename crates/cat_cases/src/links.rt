@@ -3,8 +3,8 @@ use crate::case::Case;
 use crate::fault::Fault;
 use crate::shown::push_word;
 use cat_links::links::{EmitChange, Links};
-use cat_ref::reference::{Ref, parse};
 use cat_table::listing::Listing;
+use cat_types::reference::{Ref, parse};
 use cat_types::relation::{RelKind, Relation};
 use std::alloc::{AllocError, Global};
 

@@ -2,8 +2,8 @@
 use crate::case::Case;
 use crate::fault::Fault;
 use crate::shown::{push_number, push_texts};
-use cat_marks::marks::Marks;
-use cat_ref::reference::{Ref, parse};
+use cat_types::reference::{Ref, parse};
+use cat_values::marks::Marks;
 use std::alloc::{AllocError, Global};
 
 // Puts a mark behind what stands so far.

@@ -2,7 +2,6 @@
 use crate::case::Case;
 use crate::fault::Fault;
 use crate::shown::{push_json, push_word};
-use cat_ref::reference::{Ref, parse};
 use cat_stitch::document::document;
 use cat_stitch::issues::{issue_items, issue_name_text, level_text};
 use cat_stitch::make::{empty_map, with_words};
@@ -13,6 +12,7 @@ use cat_tree::tree::Tree;
 use cat_types::issue::{Issue, IssueName, Level};
 use cat_types::node::Node;
 use cat_types::parts::Parts;
+use cat_types::reference::{Ref, parse};
 use cat_types::relation::{RelKind, Relation};
 use std::alloc::{AllocError, Global};
 

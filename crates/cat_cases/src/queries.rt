@@ -10,11 +10,11 @@ use cat_query::cursor::write_cursor;
 use cat_query::facets::facets;
 use cat_query::project::project;
 use cat_query::read::read_query;
-use cat_ref::reference::{Ref, parse, ref_of};
 use cat_table::map::Map;
 use cat_tree::clone::copy;
 use cat_tree::tree::Tree;
 use cat_types::node::Node;
+use cat_types::reference::{Ref, parse, ref_of};
 use std::alloc::{AllocError, Global};
 
 type Documents = Map<Ref, Node>;

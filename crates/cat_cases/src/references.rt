@@ -2,11 +2,11 @@
 use crate::case::Case;
 use crate::fault::Fault;
 use crate::shown::{push_texts, push_word};
-use cat_ref::names::{
+use cat_types::names::{
     is_key, is_kind, is_location_type, is_name, is_namespace, is_shelf_name, is_subdomain, is_tag,
 };
-use cat_ref::reference::{Ref, parse, ref_of, text};
-use cat_ref::split::split;
+use cat_types::reference::{Ref, parse, ref_of, text};
+use cat_types::split::split;
 use std::alloc::{AllocError, Global};
 
 // Puts the names of the rules that hold behind what stands so far.

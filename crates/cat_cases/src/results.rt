@@ -4,7 +4,6 @@ use crate::fault::Fault;
 use crate::shown::{push_json, push_number, push_texts};
 use cat_process::contents::{contents, wanted};
 use cat_process::result::result;
-use cat_ref::reference::Ref;
 use cat_table::listing::Listing;
 use cat_table::map::Map;
 use cat_tree::text::Text;
@@ -12,6 +11,7 @@ use cat_tree::tree::Tree;
 use cat_types::input::Offered;
 use cat_types::issue::Issue;
 use cat_types::node::Node;
+use cat_types::reference::Ref;
 use cat_types::work::{Content, Outcome, Output, Work};
 use std::alloc::{AllocError, Global};
 

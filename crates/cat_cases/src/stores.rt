@@ -9,9 +9,9 @@ use cat_keeper::table::Table;
 use cat_model::types::{Origin, OrphanRule, ProviderInputs, Record, Row, State};
 use cat_opening::candidate::candidate;
 use cat_opening::types::Candidate;
-use cat_ref::reference::Ref;
 use cat_table::map::Map;
 use cat_tree::text::Text;
+use cat_types::reference::Ref;
 use cat_types::work::Output;
 use std::alloc::{AllocError, Global};
 

@@ -4,11 +4,9 @@ ghost use Rattle.std.specs.Prelude.{◌≡◌, ◌+◌, ◌%◌, ◌∷◌, [], 
 use crate::case::Case;
 use crate::fault::Fault;
 use crate::shown::{push_bytes, push_counted, push_texts, truth_text};
-use cat_ends::answer_lines;
 use cat_http::message::Message;
-use cat_io::{MemorySink, MemorySource, ReadAnswer, Source, write_all};
-use cat_loop::session;
-use cat_wire::connection;
+use cat_io::{MemorySink, MemorySource, ReadAnswer, Source, session, write_all};
+use cat_wire::{answer_lines, connection};
 use std::alloc::{AllocError, Global};
 
 /// Answers each line with the line itself, after a letter that it counts up.
@@ -28,7 +26,7 @@ fn lettered(alloc: Global, letter: u8, line: &[u8]) -> Result<Vec<u8>, AllocErro
     Ok(text)
 }
 
-impl cat_loop::Machine for Lettering {
+impl cat_io::Machine for Lettering {
     ghost after = { λ m _ _. record m { letter = (m.letter + 1) % 256 } };
 
     ghost reply = { λ m _ line. m.letter ∷ (line ++ 10 ∷ []) };

@@ -17,7 +17,7 @@ use Rattle.cat_model.specs.Rows.{Rows, given, is_from, row_at, same_origin}
 use Rattle.cat_model.specs.declared.types.Origin.{Origin}
 use Rattle.cat_model.specs.declared.types.Row.{Row}
 use Rattle.cat_model.specs.declared.types.Origin.TheVariants.{Provider, Entity}
-use Rattle.cat_holding.specs.Mend.{AreOpen, is_of, left_by}
+use Rattle.cat_model.specs.Mend.{AreOpen, is_of, left_by}
 use Rattle.cat_claims.specs.Change.{among}
 use Rattle.cat_claims.specs.Touched.{is_leaving, outside}
 use Rattle.cat_claims.proofs.Outside.{same_sym, to_T}

@@ -12,9 +12,9 @@ use Rattle.std.specs.FinMap.{IsAntisymmetric}
 use Rattle.std.proofs.lemmas.List.Folds.{list_any-append}
 use Rattle.cat_table.specs.Table.{same_text}
 use Rattle.cat_table.proofs.Tables.{text_total, text_antisymmetric}
-use Rattle.cat_holding.proofs.Members.{flat_map_from, flat_map_in}
+use Rattle.cat_model.proofs.Members.{flat_map_from, flat_map_in}
 use Rattle.cat_model.specs.Catalogue.{Ref, Rows, Holders}
-use Rattle.cat_holding.specs.Mend.{below, children}
+use Rattle.cat_model.specs.Mend.{below, children}
 
 module _ {X Y : Type 0} where
   pub filter_map_more : (f : X → Option Y) (xs : List X) (i : ℕ) (x : X) → i < length xs → filter_map f (take (i + 1) xs) ≡ filter_map f (take i xs) ++ cons_option (f (get_or xs i x)) []

@@ -18,8 +18,8 @@ use Rattle.cat_model.specs.declared.types.Numbered.{Numbered}
 use Rattle.cat_model.specs.declared.types.Origin.{Origin}
 use Rattle.cat_model.specs.declared.types.Row.{Row}
 use Rattle.cat_model.specs.declared.types.State.{State}
-use Rattle.cat_holding.specs.Mend.{held_by, is_holder, lost, lost_by}
-use Rattle.cat_holding.proofs.Members.{filter_map_from, filter_map_in}
+use Rattle.cat_model.specs.Mend.{held_by, is_holder, lost, lost_by}
+use Rattle.cat_model.proofs.Members.{filter_map_from, filter_map_in}
 use Rattle.cat_claims.specs.Change.{IsChangedAmong, among}
 use Rattle.cat_claims.specs.Renewed.{is_gone, loses}
 use Rattle.cat_claims.proofs.Added.{stays}

@@ -5,7 +5,7 @@ use Rattle.std.specs.List.Sorted.{IsStrictlySortedBy}
 use Rattle.std.specs.FinMap.Entries.{is_sorted}
 use Rattle.cat_table.specs.Table.{Map, keys, same_text, text_cmp}
 use Rattle.cat_model.specs.Catalogue.{Ref, Holders, rehold, standing}
-use Rattle.cat_holding.specs.Mend.{left_by}
+use Rattle.cat_model.specs.Mend.{left_by}
 use Rattle.cat_claims.specs.Change.{IsMendable}
 use Rattle.cat_claims.specs.Claimed.{IsClaimed}
 use Rattle.cat_claims.specs.Touched.{AreKeptBut, is_fresh, is_leaving, is_moved}

@@ -9,9 +9,9 @@ use Rattle.cat_table.specs.Table.{get, keys, over, same_text, text_cmp}
 use Rattle.cat_table.proofs.Tables.{text_total, text_antisymmetric}
 use Rattle.cat_model.specs.Catalogue.{Ref, Rows, Holders, rehold, claim}
 use Rattle.cat_model.specs.Rows.{Arrivals, given, named}
-use Rattle.cat_holding.specs.Mend.{below, candidates, released, cut_off}
-use Rattle.cat_holding.proofs.Members.{any_either, any_left, any_right}
-use Rattle.cat_holding.proofs.Mended.{begins, candidates_wait}
+use Rattle.cat_model.specs.Mend.{below, candidates, released, cut_off}
+use Rattle.cat_model.proofs.Members.{any_either, any_left, any_right}
+use Rattle.cat_model.proofs.Mended.{begins, candidates_wait}
 use Rattle.cat_claims.specs.Change.{AreAmong, IsMendable, among}
 use Rattle.cat_claims.specs.Touched.{AreKeptBut, HasAll}
 use Rattle.cat_claims.specs.Waiting.{AllWait}

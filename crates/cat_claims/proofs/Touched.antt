@@ -10,7 +10,7 @@ use Rattle.std.proofs.lemmas.List.Kept.{IsStrictlySortedBy-filter}
 use Rattle.cat_table.specs.Table.{Map, find, get, keys, put, same_text, text_cmp}
 use Rattle.cat_table.proofs.Tables.{text_total, text_antisymmetric, or_true}
 use Rattle.cat_table.proofs.Orders.{has-filter, keys_rise}
-use Rattle.cat_holding.proofs.Members.{any_either, any_left, any_right}
+use Rattle.cat_model.proofs.Members.{any_either, any_left, any_right}
 use Rattle.cat_model.specs.Catalogue.{Ref, Holders, held}
 use Rattle.cat_claims.specs.Claimed.{are_others}
 use Rattle.cat_claims.specs.Touched.{AreKeptBut, HasAll, is_fresh, is_leaving, is_moved}

@@ -15,9 +15,9 @@ use Rattle.cat_model.specs.Catalogue.{Ref, Rows, Holders, row_at, may_offer, cla
 use Rattle.cat_model.specs.declared.types.Row.{Row}
 use Rattle.cat_model.specs.declared.types.Origin.TheVariants.{Entity}
 use Rattle.cat_model.specs.Rows.{Arrivals, given}
-use Rattle.cat_holding.proofs.Members.{any_either, any_left, any_right}
-use Rattle.cat_holding.proofs.Least.{first_is_least}
-use Rattle.cat_holding.proofs.Mended.{wait_more}
+use Rattle.cat_model.proofs.Members.{any_either, any_left, any_right}
+use Rattle.cat_model.proofs.Least.{first_is_least}
+use Rattle.cat_model.proofs.Mended.{wait_more}
 use Rattle.cat_claims.specs.Change.{among, AreAmong}
 use Rattle.cat_claims.specs.Touched.{AreKeptBut}
 use Rattle.cat_claims.specs.Waiting.{AllWait, head_of, IsPopped, IsFound, HasClaimed}

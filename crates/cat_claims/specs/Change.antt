@@ -11,7 +11,7 @@ use Rattle.cat_model.specs.Rows.{given, same_origin}
 use Rattle.cat_model.specs.Sound.{AreHolders}
 use Rattle.cat_model.specs.declared.types.Origin.{Origin}
 use Rattle.cat_model.specs.declared.types.Row.{Row}
-use Rattle.cat_holding.specs.Mend.{AreOpen, IsReplaced, lost}
+use Rattle.cat_model.specs.Mend.{AreOpen, IsReplaced, lost}
 use Rattle.cat_claims.specs.declared.types.Replaced.{Replaced}
 
 -- whether an arrival is one of these

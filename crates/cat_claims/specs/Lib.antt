@@ -3,4 +3,3 @@ pub mod Claimed
 pub mod Renewed
 pub mod Touched
 pub mod Waiting
-pub use Rattle.cat_holding

@@ -9,9 +9,9 @@ ghost use Rattle.cat_claims.specs.Touched.{is_fresh, is_leaving, is_moved};
 use crate::dropped::drop_all_given;
 use crate::mend::mend;
 use crate::types::{Claimed, Replaced};
-use cat_ref::reference::Ref;
 use cat_table::listing::Listing;
 use cat_table::map::Map;
+use cat_types::reference::Ref;
 use std::alloc::{AllocError, Global};
 
 // The references that are newly held, those that are no longer held, and those that another row holds than before.

@@ -2,12 +2,12 @@
 ghost use Rattle.std.specs.Prelude.{◌≡◌, ◌++◌, [], IfOk, length};
 ghost use Rattle.std.specs.List.{cons_option, filter_map, flat_map};
 ghost use Rattle.cat_model.specs.Rows.{row_at};
-ghost use Rattle.cat_holding.specs.Mend.{below, children, held_by};
+ghost use Rattle.cat_model.specs.Mend.{below, children, held_by};
 
 use cat_model::rows::IndexedRows;
-use cat_ref::reference::Ref;
 use cat_table::listing::Copied;
 use cat_table::map::Map;
+use cat_types::reference::Ref;
 use std::alloc::{AllocError, Global};
 
 // The reference of a row, where the row holds it.

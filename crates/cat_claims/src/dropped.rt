@@ -2,11 +2,11 @@
 ghost use Rattle.std.specs.Prelude.{◌≡◌, ◌∷◌, [], IfOk};
 ghost use Rattle.std.specs.Ordering.{nat_cmp};
 ghost use Rattle.cat_table.specs.Rows.{without};
-ghost use Rattle.cat_holding.specs.Mend.{left_by};
+ghost use Rattle.cat_model.specs.Mend.{left_by};
 ghost use Rattle.cat_claims.specs.Touched.{outside};
 
 use cat_model::rows::IndexedRows;
-use cat_ref::reference::Ref;
+use cat_types::reference::Ref;
 use std::alloc::{AllocError, Global};
 
 // Removes the row of an arrival, if there is one.

@@ -4,7 +4,7 @@ ghost use Rattle.std.specs.List.{flat_map};
 ghost use Rattle.cat_table.specs.Table.{keys};
 ghost use Rattle.cat_model.specs.Catalogue.{rehold};
 ghost use Rattle.cat_model.specs.Rows.{named};
-ghost use Rattle.cat_holding.specs.Mend.{released};
+ghost use Rattle.cat_model.specs.Mend.{released};
 ghost use Rattle.cat_claims.specs.Change.{AreAmong, IsMendable};
 ghost use Rattle.cat_claims.specs.Touched.{AreKeptBut, HasAll};
 
@@ -12,9 +12,9 @@ use crate::cut::cut_off;
 use crate::types::Replaced;
 use crate::waiting::{call, claim_waiting};
 use cat_model::rows::IndexedRows;
-use cat_ref::reference::Ref;
 use cat_table::listing::{Copied, Listing};
 use cat_table::map::Map;
+use cat_types::reference::Ref;
 use std::alloc::{AllocError, Global};
 
 // These references are held no more.

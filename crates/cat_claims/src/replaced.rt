@@ -3,7 +3,7 @@ ghost use Rattle.std.specs.Prelude.{◌≡◌, ◌+◌, ◌<◌, ◌≤◌, ◌^
 ghost use Rattle.std.specs.List.{filter, list_any};
 ghost use Rattle.std.specs.Ordering.{eq_by_cmp, nat_cmp};
 ghost use Rattle.cat_table.specs.Table.{get, keys, over, same_text};
-ghost use Rattle.cat_holding.specs.Mend.{IsReady, lost};
+ghost use Rattle.cat_model.specs.Mend.{IsReady, lost};
 ghost use Rattle.cat_model.specs.Catalogue.{Ref as Name, row_at};
 ghost use Rattle.cat_model.specs.Rows.{given, is_from, same_origin};
 ghost use Rattle.cat_model.specs.Step.{add_offer, add_offers, has_row, is_offer, offered_again, replaced, row_after};
@@ -11,15 +11,15 @@ ghost use Rattle.cat_claims.specs.Change.{AreAmong, IsChangedAmong, among};
 ghost use Rattle.cat_claims.specs.Renewed.{AreBelow, is_gone, loses, renewed};
 
 use crate::types::Replaced;
-use cat_model::cat_items::items::OfferedItems;
 use cat_model::rows::IndexedRows;
 use cat_model::types::{Numbered, Origin, Row, State};
-use cat_ref::reference::Ref;
 use cat_table::key::Key;
 use cat_table::listing::{Copied, Listing};
 use cat_table::map::Map;
 use cat_types::entries::Entries;
 use cat_types::input::Offered;
+use cat_types::reference::Ref;
+use cat_values::items::OfferedItems;
 use std::alloc::{AllocError, Global};
 use std::cmp::Ordering;
 

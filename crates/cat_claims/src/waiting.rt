@@ -11,9 +11,9 @@ ghost use Rattle.cat_claims.specs.Waiting.{AllWait, HasClaimed, IsFound, IsPoppe
 
 use cat_model::rows::IndexedRows;
 use cat_model::types::{Origin, Row};
-use cat_ref::reference::Ref;
 use cat_table::listing::{Copied, Listing};
 use cat_table::map::Map;
+use cat_types::reference::Ref;
 use std::alloc::{AllocError, Global};
 
 // These arrivals wait too.

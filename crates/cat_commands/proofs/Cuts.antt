@@ -1,8 +1,8 @@
 -- A cut at the first place of a byte.
 use Rattle.std.proofs.Common.{◌≡◌, ◌≢◌, ℕ, ◌+◌, ◌<◌, true, List, ◌∷◌, ◌++◌, Some, None, length, get_or, take, drop, sym, ap, ◌∙◌, arith, take-append-drop}
 use Rattle.std.proofs.lemmas.List.{drop_more, get_or-take, length-take-le}
-use Rattle.cat_ref.specs.Reading.{cut}
-use Rattle.cat_ref.proofs.Readings.{lacks, lacks_from_places, cut_free, cut_at}
+use Rattle.cat_types.specs.Reading.{cut}
+use Rattle.cat_types.proofs.Readings.{lacks, lacks_from_places, cut_free, cut_at}
 
 -- a list is its front, the byte at i and the rest
 split_around : (s : List ℕ) (i c : ℕ) → i < length s → get_or s i 0 ≡ c → s ≡ take i s ++ c ∷ drop (i + 1) s

@@ -15,8 +15,8 @@ use Rattle.cat_tree.specs.Data.{Data, null, flag, whole, words, list, dict, Item
 use Rattle.cat_tree.specs.Read.{ReadsAs, tree_of}
 use Rattle.cat_tree.specs.declared.read.TreeFault.{TreeFault}
 use Rattle.cat_tree.specs.declared.read.TreeFault.TheVariants.{Syntax, Fraction}
-use Rattle.cat_ref.specs.Reference.{parsed}
-use Rattle.cat_ref.specs.declared.fault.RefFault.{RefFault}
+use Rattle.cat_types.specs.Reference.{parsed}
+use Rattle.cat_types.specs.declared.fault.RefFault.{RefFault}
 use Rattle.cat_table.specs.Table.{Text}
 use Rattle.cat_inputs.proofs.Reading.{reading_ok}
 use Rattle.cat_inputs.specs.Reading.{tree_reading, whole_tree}
@@ -25,8 +25,8 @@ use Rattle.cat_query.specs.Query.{Asked, Parameter, asked_of, parameters_of, val
 use Rattle.cat_query.specs.SeenQuery.{asked}
 use Rattle.cat_query.specs.declared.fault.QueryFault.{QueryFault}
 use Rattle.cat_query.specs.declared.fault.QueryFault.TheVariants.{BadCursor, NoMemory}
-use Rattle.cat_query.specs.cat_pages.specs.declared.query.Cursor.{Cursor}
-use Rattle.cat_query.specs.cat_pages.specs.declared.query.Query.{Query}
+use Rattle.cat_pages.specs.declared.query.Cursor.{Cursor}
+use Rattle.cat_pages.specs.declared.query.Query.{Query}
 use Rattle.cat_commands.specs.Queries.{cursor_among, cursor_in, cursor_of, cursor_of_bytes, cursor_of_tree, cursor_of_two, cursor_with, itself, limited, one_cursor, query_of, query_with, reference_in, spelled, value_in, with_cursor}
 
 -- ---- equal texts

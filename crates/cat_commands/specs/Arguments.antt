@@ -4,7 +4,7 @@ use Rattle.std.specs.Char.{is_ascii_digit}
 use Rattle.std.specs.List.{list_all}
 use Rattle.std.specs.Str.{is_utf8}
 use Rattle.std.specs.Str.Parse.{digits_value}
-use Rattle.cat_ref.specs.Reading.{cut}
+use Rattle.cat_types.specs.Reading.{cut}
 
 -- what stands before the first space, or all, and what stands after it, if there is one
 abbrev pub parted_by : Option (List ℕ) × List ℕ → List ℕ × Option (List ℕ)

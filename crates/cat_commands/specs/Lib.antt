@@ -5,5 +5,3 @@ pub mod Queries
 pub mod References
 pub mod Lines
 pub mod Ready
-pub use Rattle.cat_inputs
-pub use Rattle.cat_query

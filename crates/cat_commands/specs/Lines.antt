@@ -1,11 +1,11 @@
 -- What a session line says, or why it says nothing.
 use Rattle.std.specs.Prelude.{ℕ, List, Option, None, Some, Result, Ok, Err, nat_lt, [], length, if◌then◌else◌, codes}
 use Rattle.std.specs.Option.{ok_or}
-use Rattle.cat_ref.specs.Names.{is_name, is_shelf_name}
-use Rattle.cat_ref.specs.Reference.{parsed}
-use Rattle.cat_ref.specs.declared.fault.RefFault.{RefFault}
+use Rattle.cat_types.specs.Names.{is_name, is_shelf_name}
+use Rattle.cat_types.specs.Reference.{parsed}
+use Rattle.cat_types.specs.declared.fault.RefFault.{RefFault}
 use Rattle.cat_table.specs.Table.{Text}
-use Rattle.cat_inputs.specs.cat_types.specs.declared.input.Mutation.{Mutation}
+use Rattle.cat_types.specs.declared.input.Mutation.{Mutation}
 use Rattle.cat_inputs.specs.Inputs.{mutation_of}
 use Rattle.cat_inputs.specs.declared.fault.InputFault.{InputFault}
 use Rattle.cat_inputs.specs.declared.form.Form.{Form}
@@ -13,7 +13,7 @@ use Rattle.cat_inputs.specs.declared.form.Form.TheVariants as form
 use Rattle.cat_query.specs.declared.ask.Ask.{Ask}
 use Rattle.cat_query.specs.declared.ask.Ask.TheVariants as ask
 use Rattle.cat_query.specs.declared.fault.QueryFault.{QueryFault}
-use Rattle.cat_query.specs.cat_pages.specs.declared.query.Query.{Query}
+use Rattle.cat_pages.specs.declared.query.Query.{Query}
 use Rattle.cat_commands.specs.declared.fault.LineFault.{LineFault}
 use Rattle.cat_commands.specs.declared.fault.LineFault.TheVariants.{LongLine, BadWord, BadArguments}
 use Rattle.cat_commands.specs.declared.keyword.Keyword.{Keyword}

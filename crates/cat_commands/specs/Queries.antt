@@ -7,16 +7,16 @@ use Rattle.base64.specs.GeneralPurpose.{decode_of}
 use Rattle.base64.specs.declared.decode.DecodeError.{DecodeError}
 use Rattle.cat_tree.specs.Data.{Data, null, flag, whole, words, list, dict, Items, no_items, item}
 use Rattle.cat_tree.specs.declared.read.TreeFault.{TreeFault}
-use Rattle.cat_ref.specs.Reference.{parsed}
-use Rattle.cat_ref.specs.declared.fault.RefFault.{RefFault}
+use Rattle.cat_types.specs.Reference.{parsed}
+use Rattle.cat_types.specs.declared.fault.RefFault.{RefFault}
 use Rattle.cat_table.specs.Table.{Text}
 use Rattle.cat_inputs.specs.Reading.{tree_reading}
 use Rattle.cat_query.specs.Cursor.{cursor_text}
 use Rattle.cat_query.specs.Query.{Asked, Parameter, asked_of, parameters_of, values_named}
 use Rattle.cat_query.specs.declared.fault.QueryFault.{QueryFault}
 use Rattle.cat_query.specs.declared.fault.QueryFault.TheVariants.{BadCursor, BadLimit}
-use Rattle.cat_query.specs.cat_pages.specs.declared.query.Cursor.{Cursor}
-use Rattle.cat_query.specs.cat_pages.specs.declared.query.Query.{Query}
+use Rattle.cat_pages.specs.declared.query.Cursor.{Cursor}
+use Rattle.cat_pages.specs.declared.query.Query.{Query}
 
 -- ---- cursors
 

@@ -1,6 +1,6 @@
 -- What holds of every command that a line gives.
 use Rattle.std.specs.Prelude.{◌^◌, ◌<◌, ⊤, IsTrue}
-use Rattle.cat_ref.specs.Names.{is_name, is_shelf_name}
+use Rattle.cat_types.specs.Names.{is_name, is_shelf_name}
 use Rattle.cat_inputs.specs.WellFormed.{IsWellFormed}
 use Rattle.cat_commands.specs.declared.line.Line.{Line}
 use Rattle.cat_commands.specs.declared.line.Line.TheVariants.{Mutate, ShelfPut, ShelfDrop, Clock}

@@ -2,8 +2,8 @@
 use Rattle.std.specs.Prelude.{ℕ, List, None, Some, Result, Ok, Err, codes}
 use Rattle.cat_tree.specs.Data.{Data}
 use Rattle.cat_tree.specs.declared.read.TreeFault.{TreeFault}
-use Rattle.cat_ref.specs.Reference.{parsed}
-use Rattle.cat_ref.specs.declared.fault.RefFault.{RefFault}
+use Rattle.cat_types.specs.Reference.{parsed}
+use Rattle.cat_types.specs.declared.fault.RefFault.{RefFault}
 use Rattle.cat_table.specs.Table.{Text}
 use Rattle.cat_inputs.specs.Body.{each_from, texts_in}
 use Rattle.cat_inputs.specs.Faults.{json_fault}

@@ -1,6 +1,6 @@
 //! The grammar of session lines: each line is one command or one question, with its arguments read and checked.
 //!
-//! It stands on cat_tree, cat_ref and cat_types, on cat_inputs for the bodies of mutations, and on cat_query for what is
+//! It stands on cat_tree and cat_types, on cat_inputs for the bodies of mutations, and on cat_query for what is
 //! asked. It promises that each line is read as a definition computes it from its bytes, or refused with the first cause
 //! that holds, and that a command that was read meets what the catalogue asks of it.
 #![tactic(auto)]
@@ -12,7 +12,3 @@ pub mod line;
 pub mod query;
 pub mod read;
 pub mod references;
-
-// What this crate stands on and hands on.
-pub use cat_inputs;
-pub use cat_query;

@@ -1,8 +1,8 @@
 //! The commands of a session, and what it asks.
-use cat_inputs::cat_types::input::Mutation;
 use cat_query::ask::Ask;
-use cat_ref::reference::Ref;
 use cat_tree::text::Text;
+use cat_types::input::Mutation;
+use cat_types::reference::Ref;
 
 /// What a line is, with its arguments: a command, or a question.
 #[derive(Drop)]

@@ -2,7 +2,7 @@
 ghost use Rattle.std.specs.Prelude.{◌≡◌, ◌⊎◌, IfOk, IfErr, Ok, Err};
 ghost use Rattle.cat_commands.specs.Queries as spec;
 
-use cat_query::cat_pages::query::Query;
+use cat_pages::query::Query;
 use cat_query::fault::QueryFault;
 use cat_query::read::read_query;
 use std::alloc::Global;

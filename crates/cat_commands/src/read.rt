@@ -13,13 +13,13 @@ use crate::query::query_of;
 use crate::references::references_of;
 use cat_inputs::form::Form;
 use cat_inputs::input::read_mutation;
+use cat_pages::query::Query;
 use cat_query::ask::Ask;
-use cat_query::cat_pages::query::Query;
-use cat_ref::fault::RefFault;
-use cat_ref::names::{is_name, is_shelf_name};
-use cat_ref::reference::{Ref, parse};
 use cat_table::listing::Listing;
 use cat_tree::text::Text;
+use cat_types::fault::RefFault;
+use cat_types::names::{is_name, is_shelf_name};
+use cat_types::reference::{Ref, parse};
 use std::alloc::Global;
 
 const LONGEST_LINE: usize = 8_388_608;

@@ -9,10 +9,10 @@ ghost use Rattle.cat_commands.specs.References as spec;
 use crate::fault::{LineFault, input_fault};
 use cat_inputs::fault::{InputFault, Place, json_fault};
 use cat_inputs::text::read_tree;
-use cat_ref::fault::RefFault;
-use cat_ref::reference::{Ref, parse, text_in};
 use cat_table::listing::Listing;
 use cat_tree::tree::Tree;
+use cat_types::fault::RefFault;
+use cat_types::reference::{Ref, parse, text_in};
 use std::alloc::Global;
 
 // The texts of a list of texts.

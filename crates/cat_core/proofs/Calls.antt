@@ -12,10 +12,10 @@ use Rattle.cat_model.specs.declared.types.State.{State}
 use Rattle.cat_model.specs.Catalogue.{Rules}
 use Rattle.cat_model.specs.Sound.{AreBegun}
 use Rattle.cat_model.specs.Step.{Event, change, refusal, step}
-use Rattle.cat_settle.specs.cat_events.specs.cat_frame.specs.cat_laws.proofs.Counters.{step_begun}
-use Rattle.cat_settle.specs.cat_events.specs.Coming.{HasCome, IsSteady, came_fault, came_state, state_after}
-use Rattle.cat_settle.specs.cat_events.specs.Stepped.{come_to, stepped}
-use Rattle.cat_settle.specs.cat_events.specs.declared.stepped.Stepped.{Stepped}
+use Rattle.cat_model.proofs.Counters.{step_begun}
+use Rattle.cat_events.specs.Coming.{HasCome, IsSteady, came_fault, came_state, state_after}
+use Rattle.cat_events.specs.Stepped.{come_to, stepped}
+use Rattle.cat_events.specs.declared.stepped.Stepped.{Stepped}
 use Rattle.cat_core.specs.declared.fault.CoreFault.{CoreFault}
 use Rattle.cat_core.specs.declared.fault.CoreFault.TheVariants.{NoMemory}
 use Rattle.cat_core.specs.declared.ledger.Ledger.{Ledger}

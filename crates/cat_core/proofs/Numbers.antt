@@ -15,7 +15,7 @@ use Rattle.cat_model.specs.declared.types.Orphan.{Orphan}
 use Rattle.cat_model.specs.declared.types.Record.{Record}
 use Rattle.cat_model.specs.declared.types.State.{State}
 use Rattle.cat_links.specs.Links.{Emitted}
-use Rattle.cat_settle.specs.cat_events.specs.Coming.{IsSteady}
+use Rattle.cat_events.specs.Coming.{IsSteady}
 use Rattle.cat_settle.proofs.Held.{AreHeld, are_held}
 use Rattle.cat_core.proofs.Firsts.{holds}
 use Rattle.cat_core.specs.Numbered.{AreApart, key_where}

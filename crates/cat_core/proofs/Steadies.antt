@@ -8,7 +8,7 @@ use Rattle.std.specs.Option.{option_and_then}
 use Rattle.cat_table.specs.Table.{get, put, same_text, text_cmp}
 use Rattle.cat_table.proofs.Tables.{find-put_other, find-put_same, same_is, text_antisymmetric, text_total}
 use Rattle.cat_links.specs.Links.{Emitted}
-use Rattle.cat_settle.specs.cat_events.specs.cat_frame.specs.Linked.{AreLinked}
+use Rattle.cat_hold.specs.Linked.{AreLinked}
 use Rattle.cat_model.specs.declared.types.Fault.{Fault}
 use Rattle.cat_model.specs.declared.types.Order.{Order}
 use Rattle.cat_model.specs.declared.types.Record.{Record}
@@ -18,10 +18,10 @@ use Rattle.cat_model.specs.Catalogue.{Ref, Rules, emits, output_of}
 use Rattle.cat_model.specs.Reply.{taken}
 use Rattle.cat_model.specs.Step.{Event, change, next_taken, refresh, refusal, step, take, take_next, with_record}
 use Rattle.cat_model.specs.Step.Event.{Refresh, Take}
-use Rattle.cat_settle.specs.cat_events.specs.cat_frame.specs.cat_laws.proofs.Ordered.{step_ordered}
-use Rattle.cat_settle.specs.cat_events.specs.cat_frame.specs.cat_laws.proofs.Steps.{step_kept, step_small}
-use Rattle.cat_settle.specs.cat_events.specs.Coming.{HasCome, IsSteady, came_fault, came_state, state_after}
-use Rattle.cat_settle.specs.cat_events.specs.Stepped.{come_to, stepped}
+use Rattle.cat_model.proofs.Ordered.{step_ordered}
+use Rattle.cat_model.proofs.Steps.{step_kept, step_small}
+use Rattle.cat_events.specs.Coming.{HasCome, IsSteady, came_fault, came_state, state_after}
+use Rattle.cat_events.specs.Stepped.{come_to, stepped}
 use Rattle.cat_core.specs.declared.fault.CoreFault.{CoreFault}
 use Rattle.cat_core.specs.declared.ledger.Ledger.{Ledger}
 use Rattle.cat_core.specs.Answer.{answer_with}

@@ -16,7 +16,7 @@ use Rattle.cat_model.specs.Reply.{taken}
 use Rattle.cat_model.specs.Settle.{order, order_with}
 use Rattle.cat_model.specs.Step.{change, fault_where, forget, forget_at, has_number, leased, next_taken, or_else, ref_at, spent, take, take_next}
 use Rattle.cat_model.specs.Step.Event.{Forget, ForgetNumber, Take}
-use Rattle.cat_settle.specs.cat_events.specs.Stepped.{come_to, stepped}
+use Rattle.cat_events.specs.Stepped.{come_to, stepped}
 use Rattle.cat_core.specs.Answer.{order_ahead, order_for}
 
 module _ (rules : Rules) (s : Settings) (now : ℕ) (m : State) where

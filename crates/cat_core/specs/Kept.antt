@@ -5,7 +5,7 @@ use Rattle.cat_model.specs.declared.types.State.{State}
 use Rattle.cat_model.specs.Catalogue.{Rules}
 use Rattle.cat_model.specs.Sound.{AreBegun}
 use Rattle.cat_links.specs.Links.{Emitted}
-use Rattle.cat_settle.specs.cat_events.specs.Coming.{IsSteady}
+use Rattle.cat_events.specs.Coming.{IsSteady}
 use Rattle.cat_core.specs.declared.ledger.Ledger.{Ledger}
 
 -- the interval and the lease are 1 to 2^40, and the limit on the stored input bytes is below 2^62

@@ -3,5 +3,3 @@ pub mod Kept
 pub mod Least
 pub mod Numbered
 pub mod Waits
-pub use Rattle.cat_search
-pub use Rattle.cat_settle

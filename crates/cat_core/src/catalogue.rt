@@ -9,9 +9,9 @@ ghost use Rattle.cat_model.specs.Given.{given};
 ghost use Rattle.cat_model.specs.Reply.{acted, counts, finished, issues_at, next_known, next_stitch, placed, resting, state_counts, taken, waiting};
 ghost use Rattle.cat_model.specs.Settle.{not_begun, try_settle};
 ghost use Rattle.cat_model.specs.Sound.{AreBegun, AreSmall, Quiet, Sound, its_number};
-ghost use Rattle.cat_settle.specs.cat_events.specs.Coming.{HasCome, IsSteady};
-ghost use Rattle.cat_settle.specs.cat_events.specs.Stepped.{come_to, AreMoments};
-ghost use Rattle.cat_settle.specs.cat_reach.specs.Gathered.{Gathers, IsWithin};
+ghost use Rattle.cat_events.specs.Coming.{HasCome, IsSteady};
+ghost use Rattle.cat_events.specs.Stepped.{come_to, AreMoments};
+ghost use Rattle.cat_reached.specs.Gathered.{Gathers, IsWithin};
 ghost use Rattle.cat_core.specs.Answer.{IsSettled, settle_answer};
 ghost use Rattle.cat_model.specs.Step.{ref_at, refusal, source_at, start, step};
 ghost use Rattle.cat_model.specs.Step.Event.{Finish, Forget, ForgetNumber, Mutate, PutStitch, Refresh, ShelfDrop, ShelfPut, Take};
@@ -26,25 +26,23 @@ use crate::questions::{
     counts_of, is_quiet, issues_of, number_of, rests, stitch_after, stitch_reply,
 };
 use crate::waiting::waiting_at;
+use cat_events::change::{forget, shelf_drop, shelf_put};
+pub use cat_events::done::{Done, Stitched};
+use cat_events::finish::finish;
+use cat_events::given::{given_by, serial_of};
+use cat_events::lease::refresh;
+use cat_events::mutation::{last_serial, mutate};
+use cat_events::stitch::put_stitch;
 use cat_hold::hold::row_of;
 use cat_hold::layers::Layers;
 use cat_links::links::Links;
-use cat_marks::marks::Marks;
 use cat_model::records::Records;
 use cat_model::rows::IndexedRows;
 use cat_model::types::{
     Acted, Counts, Fault, Finished, Order, Placed, Progress, Row, Settings, State, StateCounts,
     StitchOrder, Stop,
 };
-use cat_ref::reference::Ref;
 use cat_search::index::{Index, list_pending};
-use cat_settle::cat_events::change::{forget, shelf_drop, shelf_put};
-pub use cat_settle::cat_events::done::{Done, Stitched};
-use cat_settle::cat_events::finish::finish;
-use cat_settle::cat_events::given::{given_by, serial_of};
-use cat_settle::cat_events::lease::refresh;
-use cat_settle::cat_events::mutation::{last_serial, mutate};
-use cat_settle::cat_events::stitch::put_stitch;
 use cat_settle::order::MOST_EVENTS;
 use cat_settle::settle::settled;
 use cat_table::listing::{Copied, Listing};
@@ -53,6 +51,8 @@ use cat_tree::text::Text;
 use cat_types::input::Mutation;
 use cat_types::issue::Issue;
 use cat_types::node::Node;
+use cat_types::reference::Ref;
+use cat_values::marks::Marks;
 use std::alloc::{AllocError, Global};
 use std::marker::{Model, PhantomData};
 use std::mem;

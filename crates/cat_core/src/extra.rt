@@ -3,16 +3,16 @@ ghost use Rattle.std.specs.Prelude.{◌≡◌, IfOk};
 ghost use Rattle.cat_core.specs.Numbered.{AreApart};
 ghost use Rattle.cat_model.specs.Step.{next_taken, ref_at};
 ghost use Rattle.cat_model.specs.Step.Event.{ForgetNumber};
-ghost use Rattle.cat_settle.specs.cat_events.specs.Coming.{HasCome, IsSteady};
-ghost use Rattle.cat_settle.specs.cat_events.specs.Stepped.{come_to};
+ghost use Rattle.cat_events.specs.Coming.{HasCome, IsSteady};
+ghost use Rattle.cat_events.specs.Stepped.{come_to};
 
 use crate::known::with_number;
+use cat_events::change::forget;
 use cat_hold::layers::Layers;
 use cat_links::links::Links;
 use cat_model::types::{Fault, Settings, State};
-use cat_ref::reference::Ref;
-use cat_settle::cat_events::change::forget;
 use cat_table::listing::Copied;
+use cat_types::reference::Ref;
 use std::alloc::{AllocError, Global};
 
 // A copy of the reference of a record or an orphan with this number.

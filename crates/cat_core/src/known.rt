@@ -8,9 +8,9 @@ ghost use Rattle.cat_core.specs.Numbered.{AreApart, key_where};
 
 use cat_model::records::Records;
 use cat_model::types::{Orphan, State};
-use cat_ref::reference::Ref;
 use cat_table::key::Key;
 use cat_table::map::Map;
+use cat_types::reference::Ref;
 use std::cmp::Ordering;
 
 // The reference of the record with this number.

@@ -14,7 +14,3 @@ pub mod ledger;
 pub mod orders;
 pub mod questions;
 pub mod waiting;
-
-// What this crate stands on and hands on.
-pub use cat_search;
-pub use cat_settle;

@@ -5,19 +5,19 @@ ghost use Rattle.cat_model.specs.Catalogue.{work};
 ghost use Rattle.cat_model.specs.Reply.{finished, finished_as, taken, token_of};
 ghost use Rattle.cat_model.specs.Sound.{AreSmall};
 ghost use Rattle.cat_model.specs.Step.Event.{Take};
-ghost use Rattle.cat_settle.specs.cat_events.specs.Coming.{came_fault, state_after};
-ghost use Rattle.cat_settle.specs.cat_events.specs.Stepped.{come_to, AreMoments};
+ghost use Rattle.cat_events.specs.Coming.{came_fault, state_after};
+ghost use Rattle.cat_events.specs.Stepped.{come_to, AreMoments};
 ghost use Rattle.cat_core.specs.Answer.{order_ahead, order_for};
 
 use crate::extra::take_ref;
+use cat_events::done::Done;
+use cat_events::lease::take_at;
+use cat_events::present::present_order;
 use cat_hold::layers::Layers;
 use cat_hold::parts::work_of;
 use cat_model::types::{Fault, Finished, Order, Record, Settings, State};
-use cat_ref::reference::Ref;
-use cat_settle::cat_events::done::Done;
-use cat_settle::cat_events::lease::take_at;
-use cat_settle::cat_events::present::present_order;
 use cat_table::listing::Copied;
+use cat_types::reference::Ref;
 use cat_types::work::{Outcome, Work};
 use std::alloc::{AllocError, Global};
 

@@ -1,3 +1,5 @@
 pub mod Acting
 pub mod Asked
 pub mod Shown
+pub mod Telling
+pub mod Again

@@ -2,8 +2,8 @@
 use Rattle.std.proofs.Common.{◌≡◌, ℕ, Bool, true, false, refl, sym, true≢false}
 use Rattle.cat_desk.specs.Shown.{is_shown, shown_text}
 use Rattle.cat_model.specs.declared.types.State.{State}
-use Rattle.cat_replies.specs.cat_query.specs.declared.ask.Ask.{Ask}
-use Rattle.cat_replies.specs.cat_query.specs.declared.ask.Ask.TheVariants as ask
+use Rattle.cat_query.specs.declared.ask.Ask.{Ask}
+use Rattle.cat_query.specs.declared.ask.Ask.TheVariants as ask
 use Rattle.cat_replies.specs.Asks.{ask_text}
 
 pub shown_is : (a : Ask) → is_shown a ≡ true → (now : ℕ) (m : State) → ask_text a now m ≡ shown_text a m.documents

@@ -6,7 +6,7 @@ use Rattle.cat_core.specs.declared.ledger.Ledger.{Ledger}
 use Rattle.cat_desk.specs.declared.command.Asked.{Asked}
 use Rattle.cat_desk.specs.declared.command.Asked.TheVariants.{Written, NotFound, NoFacet, NoMemory}
 use Rattle.cat_io.specs.Clock.{CountsReading}
-use Rattle.cat_replies.specs.cat_query.specs.declared.ask.Ask.{Ask}
+use Rattle.cat_query.specs.declared.ask.Ask.{Ask}
 use Rattle.cat_replies.specs.Asks.{AskFault, ask_text}
 use Rattle.cat_replies.specs.Asks.AskFault.{not_found, no_facet}
 

@@ -1,8 +1,8 @@
 -- What a command does.
 use Rattle.std.specs.Prelude.{ℕ}
 use Rattle.cat_table.specs.Table.{Text}
-use Rattle.cat_core.specs.cat_settle.specs.cat_events.specs.declared.done.Done.{Done}
-use Rattle.cat_core.specs.cat_settle.specs.cat_events.specs.declared.done.Stitched.{Stitched}
+use Rattle.cat_events.specs.declared.done.Done.{Done}
+use Rattle.cat_events.specs.declared.done.Stitched.{Stitched}
 use Rattle.cat_hold.specs.declared.layers.Layers.{Ghosts}
 use Rattle.cat_model.specs.Catalogue.{Ref}
 use Rattle.cat_model.specs.Given.{given}

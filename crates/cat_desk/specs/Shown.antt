@@ -2,10 +2,10 @@
 use Rattle.std.specs.Prelude.{ℕ, List, Bool, true, false}
 use Rattle.std.specs.declared.result.Result.{Result}
 use Rattle.std.specs.declared.result.Result.TheVariants.{Ok, Err}
-use Rattle.cat_replies.specs.cat_query.specs.Answers.{facets_answer, list_data, many_data, page_data}
-use Rattle.cat_replies.specs.cat_pages.specs.Page.{Pair}
-use Rattle.cat_replies.specs.cat_query.specs.declared.ask.Ask.{Ask}
-use Rattle.cat_replies.specs.cat_query.specs.declared.ask.Ask.TheVariants as ask
+use Rattle.cat_query.specs.Answers.{facets_answer, list_data, many_data, page_data}
+use Rattle.cat_pages.specs.Page.{Pair}
+use Rattle.cat_query.specs.declared.ask.Ask.{Ask}
+use Rattle.cat_query.specs.declared.ask.Ask.TheVariants as ask
 use Rattle.cat_replies.specs.Asks.{AskFault, text_or}
 use Rattle.cat_replies.specs.Asks.AskFault.{not_found, no_facet}
 use Rattle.cat_table.specs.Table.{get}

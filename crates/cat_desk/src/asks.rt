@@ -6,16 +6,16 @@ ghost use Rattle.cat_model.specs.Reply.{is_quiet};
 ghost use Rattle.cat_replies.specs.Asks.{AskFault, ask_text, document_numbered, text_or};
 
 use crate::command::Asked;
-use cat_core::cat_search::index::Index;
 use cat_core::catalogue::Catalogue;
 use cat_hold::layers::Layers;
-use cat_ref::reference::Ref;
-use cat_replies::cat_query::answers::{push_facets, push_list, push_many, push_page};
-use cat_replies::cat_query::ask::Ask;
-use cat_replies::cat_query::facets::FacetFault;
+use cat_query::answers::{push_facets, push_list, push_many, push_page};
+use cat_query::ask::Ask;
+use cat_query::facets::FacetFault;
 use cat_replies::events::{push_counts, push_quiet};
 use cat_replies::lists::{push_conflicts, push_document, push_failures, push_orphans};
+use cat_search::index::Index;
 use cat_types::node::Node;
+use cat_types::reference::Ref;
 use std::alloc::{AllocError, Global};
 
 /// Answers a question to a catalogue at this moment. Only what is answered `Written` changes `out`, by appending the answer.

@@ -1,9 +1,9 @@
 //! What a desk is told and asked, and what it answers.
 use cat_core::fault::{CoreFault, Cut};
 use cat_model::types::{Acted, Counts, Finished, Order, Placed, StitchOrder};
-use cat_ref::reference::Ref;
 use cat_tree::text::Text;
 use cat_types::input::Mutation;
+use cat_types::reference::Ref;
 
 /// What is to be done. The moment is not part of it: the desk knows it. `F` is a result with its order and `S` a document with its
 /// stitch order, of types that keep that they are what is worked of these: cat_core's `Done` and `Stitched`.

@@ -5,10 +5,10 @@ ghost use Rattle.cat_desk.specs.declared.command.Asked.{Asked};
 ghost use Rattle.cat_desk.specs.declared.command.Reply.{Reply};
 ghost use Rattle.cat_model.specs.declared.types.Order.{Order};
 ghost use Rattle.cat_model.specs.declared.types.StitchOrder.{StitchOrder};
-ghost use Rattle.cat_replies.specs.cat_query.specs.declared.ask.Ask.{Ask};
+ghost use Rattle.cat_query.specs.declared.ask.Ask.{Ask};
 
 use crate::command::{Asked, Command, Reply};
-use cat_replies::cat_query::ask::Ask;
+use cat_query::ask::Ask;
 use std::alloc::Global;
 
 /// What takes commands and questions, seen by two relations: what a deed may do to it and answer, and what a question may do

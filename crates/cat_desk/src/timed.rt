@@ -1,7 +1,7 @@
 //! A catalogue with a clock.
 ghost use Rattle.std.specs.Prelude.{◌≡◌, ◌≢◌, ◌<◌, ◌≤◌, ◌-◌, ◌++◌, ◌^◌, List, ℕ};
 ghost use Rattle.std.specs.declared.option.Option.TheVariants.{Some};
-ghost use Rattle.cat_core.specs.cat_settle.specs.cat_reach.specs.Gathered.{IsWithin};
+ghost use Rattle.cat_reached.specs.Gathered.{IsWithin};
 ghost use Rattle.cat_desk.specs.Acts.{Acts, ActsOnce, reply_as, settled_as};
 ghost use Rattle.cat_desk.specs.Asks.{AsksOnce};
 ghost use Rattle.cat_desk.specs.Deed.{Deed, deed_of};
@@ -16,9 +16,9 @@ use cat_core::fault::{CoreFault, Cut};
 use cat_hold::layers::Layers;
 use cat_io::{Clock, FixedClock};
 use cat_model::types::{Acted, Counts, Finished, Order, Placed, StitchOrder};
-use cat_ref::reference::Ref;
-use cat_replies::cat_query::ask::Ask;
+use cat_query::ask::Ask;
 use cat_table::listing::Listing;
+use cat_types::reference::Ref;
 use std::alloc::Global;
 
 /// A catalogue with a clock, which is read once for each command and each question.

@@ -19,7 +19,7 @@ use Rattle.cat_model.specs.Catalogue.{Offers, Ref}
 use Rattle.cat_model.specs.Sound.{AreOffers, offered}
 use Rattle.cat_model.specs.Step.{items_after, source_at, without}
 use Rattle.cat_claims.specs.Change.{IsChangedAmong}
-use Rattle.cat_frame.specs.cat_laws.proofs.Replaced.{same_origin-is}
+use Rattle.cat_model.proofs.Replaced.{same_origin-is}
 use Rattle.cat_events.specs.Again.{kept_offers}
 use Rattle.cat_events.specs.OwnChanges.{given_or_removed, offered_or}
 use Rattle.cat_events.proofs.Held.{put_all_stay}

@@ -5,15 +5,15 @@ use Rattle.std.specs.declared.option.Option.TheVariants.{None, Some}
 use Rattle.std.specs.declared.result.Result.{Result}
 use Rattle.std.specs.declared.result.Result.TheVariants.{Ok, Err}
 use Rattle.cat_links.specs.Links.{Emitted}
-use Rattle.cat_frame.specs.Linked.{AreLinked}
+use Rattle.cat_hold.specs.Linked.{AreLinked}
 use Rattle.cat_model.specs.declared.types.Fault.{Fault}
 use Rattle.cat_model.specs.declared.types.Settings.{Settings}
 use Rattle.cat_model.specs.declared.types.State.{State}
 use Rattle.cat_model.specs.Catalogue.{Rules}
 use Rattle.cat_model.specs.Sound.{AreOrdered, AreSmall, Sound}
 use Rattle.cat_model.specs.Step.{Event, change, refusal, step}
-use Rattle.cat_frame.specs.cat_laws.proofs.Ordered.{step_ordered}
-use Rattle.cat_frame.specs.cat_laws.proofs.Steps.{run_kept, step_small}
+use Rattle.cat_model.proofs.Ordered.{step_ordered}
+use Rattle.cat_model.proofs.Steps.{run_kept, step_small}
 use Rattle.cat_events.specs.Coming.{HasCome, IsLinkedStep, IsSteady, came_fault, came_state, links_after, links_in, seen, state_after}
 use Rattle.cat_events.specs.Stepped.{come_to, stepped}
 use Rattle.cat_events.specs.declared.stepped.Step.{Step}

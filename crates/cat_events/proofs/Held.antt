@@ -27,8 +27,8 @@ use Rattle.cat_model.specs.Sound.{AreHolders, AreOffers, offered}
 use Rattle.cat_model.specs.Step.{add_offer, add_offers, finished_state, forgotten, has_row, items_after, mutated_state, offered_again, put_all, replaced, row_after, same_origin, source_at, without}
 use Rattle.cat_claims.specs.Claimed.{are_others}
 use Rattle.cat_events.specs.OwnChanges.{offered_refs}
-use Rattle.cat_frame.specs.cat_laws.proofs.Holding.{reheld_holders, stood}
-use Rattle.cat_frame.specs.cat_laws.proofs.Replaced.{same_origin-is}
+use Rattle.cat_model.proofs.Holding.{reheld_holders, stood}
+use Rattle.cat_model.proofs.Replaced.{same_origin-is}
 
 -- ---- one holder before and after
 

@@ -30,7 +30,7 @@ use Rattle.cat_model.specs.Catalogue.{Ref, Rows, Rules, frame, row_at}
 use Rattle.cat_model.specs.Sound.{AreOffers, AreSmall, offered}
 use Rattle.cat_model.specs.Step.{add_offer, add_offers, fault_where, finish, finished_record, finished_rows, finished_state, has_row, leaving, is_offer, offered_again, or_else, row_after, same_origin, spent, with_record}
 use Rattle.cat_model.specs.Step.Event.{Finish}
-use Rattle.cat_frame.specs.cat_laws.proofs.Replaced.{same_origin-is}
+use Rattle.cat_model.proofs.Replaced.{same_origin-is}
 use Rattle.cat_events.specs.Again.{is_present_order, kept_offers, offers_again, output_offers, same_offer, same_offers}
 use Rattle.cat_events.specs.Stepped.{come_to, stepped}
 use Rattle.cat_events.proofs.Shown.{row_shows}

@@ -13,7 +13,7 @@ use Rattle.cat_table.proofs.Tables.{find-over, is_sorted-tabulate, text_antisymm
 use Rattle.cat_links.specs.Links.{Emitted}
 use Rattle.cat_model.specs.declared.types.Counter.TheVariants.{Arrival, Number, Token, Ticket}
 use Rattle.cat_model.specs.declared.types.Fault.TheVariants.{Spent}
-use Rattle.cat_frame.specs.Linked.{AreLinked}
+use Rattle.cat_hold.specs.Linked.{AreLinked}
 use Rattle.cat_model.specs.declared.types.Settings.{Settings}
 use Rattle.cat_model.specs.declared.types.State.{State}
 use Rattle.cat_model.specs.declared.types.StitchOrder.{StitchOrder}

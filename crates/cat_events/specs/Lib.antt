@@ -4,4 +4,3 @@ pub mod OwnChanges
 pub mod Stepped
 pub mod Coming
 pub mod Again
-pub use Rattle.cat_frame

@@ -14,7 +14,7 @@ use Rattle.cat_model.specs.Catalogue.{Offers, Ref}
 use Rattle.cat_model.specs.declared.types.Given.{Given}
 use Rattle.cat_model.specs.Step.{finished_rows, replaced}
 use Rattle.cat_claims.specs.Claimed.{IsClaimed}
-use Rattle.cat_frame.specs.declared.change.Own.{Own}
+use Rattle.cat_hold.specs.declared.change.Own.{Own}
 use Rattle.cat_events.specs.Again.{kept_offers}
 use Rattle.cat_claims.specs.declared.types.Claimed.{Claimed}
 use Rattle.cat_events.specs.declared.plan.Inputs.TheVariants.{Providers, Same}

@@ -8,10 +8,10 @@ use Rattle.cat_model.specs.declared.types.Record.{Record}
 use Rattle.cat_model.specs.declared.types.Orphan.{Orphan}
 use Rattle.cat_model.specs.declared.types.State.{State}
 use Rattle.cat_model.specs.Catalogue.{Holders, Ref, Rows, Rules, Shelf}
-use Rattle.cat_frame.specs.Amended.{amended}
-use Rattle.cat_frame.specs.Followed.{followed}
-use Rattle.cat_frame.specs.Following.{IsOwnChange, IsReach, held_state}
-use Rattle.cat_frame.specs.declared.amended.Amendment.{Amendment}
+use Rattle.cat_hold.specs.Amended.{amended}
+use Rattle.cat_hold.specs.Followed.{followed}
+use Rattle.cat_hold.specs.Following.{IsOwnChange, IsReach, held_state}
+use Rattle.cat_hold.specs.declared.amended.Amendment.{Amendment}
 use Rattle.cat_claims.specs.declared.types.Claimed.{Claimed}
 use Rattle.cat_events.specs.declared.plan.Inputs.{Inputs}
 use Rattle.cat_events.specs.declared.plan.Inputs.TheVariants.{Same, Providers, Shelf as ShelfInputs}

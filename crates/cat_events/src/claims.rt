@@ -7,7 +7,7 @@ ghost use Rattle.cat_model.specs.declared.types.Origin.TheVariants.{Entity};
 ghost use Rattle.cat_model.specs.Catalogue.{Ref as RefValue, may_offer};
 ghost use Rattle.cat_model.specs.Sound.{AreOffers};
 ghost use Rattle.cat_model.specs.Step.{replaced};
-ghost use Rattle.cat_claims.specs.cat_holding.specs.Mend.{IsReady};
+ghost use Rattle.cat_model.specs.Mend.{IsReady};
 ghost use Rattle.cat_claims.specs.Change.{IsChangedAmong};
 ghost use Rattle.cat_claims.specs.Claimed.{IsClaimed};
 ghost use Rattle.cat_events.specs.OwnChanges.{offered_or};
@@ -16,11 +16,11 @@ use crate::again::kept_offers;
 use cat_claims::claims::reclaimed;
 use cat_claims::replaced::{Offering, replaced_rows};
 use cat_claims::types::Claimed;
-use cat_frame::cat_hold::parts::append;
+use cat_hold::parts::append;
 use cat_model::types::{Origin, Record, State};
-use cat_ref::reference::Ref;
 use cat_table::listing::{Copied, Listing};
 use cat_types::input::Offered;
+use cat_types::reference::Ref;
 use std::alloc::{AllocError, Global};
 
 /// Who holds what once this origin offers just these, where outside of the changed references it offers what it did, and what is new

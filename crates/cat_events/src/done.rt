@@ -1,7 +1,7 @@
 //! Results with their orders.
 ghost use Rattle.std.specs.Prelude.{◌≡◌, IfOk};
 
-use cat_frame::cat_hold::layers::Layers;
+use cat_hold::layers::Layers;
 use cat_model::types::{Order, StitchOrder};
 use cat_types::node::Node;
 use cat_types::work::Outcome;

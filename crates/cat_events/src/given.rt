@@ -3,11 +3,11 @@ ghost use Rattle.std.specs.Prelude.{◌≡◌, ℕ, List, IfOk, Option};
 ghost use Rattle.cat_model.specs.Given.{given, key_or, offers_of, provider_key};
 
 use cat_model::types::Given;
-use cat_ref::reference::Ref;
 use cat_table::listing::{Copied, Listing};
 use cat_tree::text::Text;
 use cat_types::entries::Entries;
 use cat_types::input::{Item, Mutation, Offered};
+use cat_types::reference::Ref;
 use std::alloc::{AllocError, Global};
 
 // The key of a provider's item that names none.

@@ -2,11 +2,11 @@
 ghost use Rattle.std.specs.Prelude.{◌≡◌, IfOk, [], cond};
 ghost use Rattle.cat_model.specs.Step.{items_after, put_all, without};
 
-use cat_model::cat_items::items::OfferedItems;
 use cat_model::types::Given;
-use cat_ref::reference::Ref;
 use cat_table::listing::Copied;
 use cat_types::input::Offered;
+use cat_types::reference::Ref;
+use cat_values::items::OfferedItems;
 use std::alloc::{AllocError, Global};
 
 // The items that are not of these references.

@@ -9,9 +9,9 @@ ghost use Rattle.cat_events.specs.Coming.{came_fault, came_state};
 ghost use Rattle.cat_events.specs.Stepped.{come_to, AreMoments};
 
 use crate::refusal::MOST;
-use cat_frame::cat_hold::layers::Layers;
+use cat_hold::layers::Layers;
 use cat_model::types::{Counter, Fault, Lease, Settings, State};
-use cat_ref::reference::Ref;
+use cat_types::reference::Ref;
 
 /// Leases a record at this moment, if there is one, whatever lease it has. No memory is taken.
 pub fn take_at<L: Layers>(

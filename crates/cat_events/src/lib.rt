@@ -1,6 +1,6 @@
 //! The events of the catalogue: mutations, shelf changes, refreshes, forgets, takes, finishes and stitches.
 //!
-//! It stands on cat_frame, and on cat_claims for who holds what. Each event is one function that makes of a state and its links what the event comes to, which is
+//! It stands on cat_hold, and on cat_claims for who holds what. Each event is one function that makes of a state and its links what the event comes to, which is
 //! the step of the abstract catalogue, exactly, or answers the refusal; where memory runs out, nothing has changed.
 //!
 //! An event that may reach many references is planned first: its plan asks only what the event reaches, and has all that differs after
@@ -23,6 +23,3 @@ pub mod present;
 pub mod refusal;
 pub mod stepped;
 pub mod stitch;
-
-// What this crate stands on and hands on.
-pub use cat_frame;

@@ -3,14 +3,14 @@ ghost use Rattle.std.specs.Prelude.{◌≡◌, ◌&&◌, IfOk, Option, Bool, opt
 ghost use Rattle.std.specs.declared.option.Option.TheVariants.{Some};
 ghost use Rattle.cat_table.specs.Table.{get};
 ghost use Rattle.cat_links.specs.Links.{Emitted};
-ghost use Rattle.cat_frame.specs.Linked.{AreLinked, AreRecorded};
+ghost use Rattle.cat_hold.specs.Linked.{AreLinked, AreRecorded};
 ghost use Rattle.cat_model.specs.Catalogue.{same_option, work};
 ghost use Rattle.cat_model.specs.Step.{has_token, is_present, is_present_stitch, is_ticket};
 ghost use Rattle.cat_events.specs.Again.{is_present_order};
 
-use cat_frame::cat_hold::layers::Layers;
-use cat_frame::cat_hold::parts::work_of;
-use cat_frame::parts::present_parts;
+use cat_hold::layers::Layers;
+use cat_hold::linked_parts::present_parts;
+use cat_hold::parts::work_of;
 use cat_links::links::Links;
 use cat_model::types::{Lease, Order, Record, State, StitchOrder};
 use cat_types::parts::Parts;

@@ -6,7 +6,7 @@ ghost use Rattle.cat_events.specs.Stepped.{come_to};
 
 use crate::done::Stitched;
 use crate::present::present_stitch;
-use cat_frame::cat_hold::layers::Layers;
+use cat_hold::layers::Layers;
 use cat_links::links::Links;
 use cat_model::types::{Fault, Settings, State};
 use cat_table::listing::Copied;

@@ -7,9 +7,9 @@ use Rattle.base64.proofs.OnLiterals.{base64_on_literals}
 use Rattle.form_urlencoded.proofs.OnLiterals.{form_urlencoded_on_literals}
 use Rattle.serde_json.proofs.OnLiterals.{serde_json_on_literals}
 use Rattle.url.proofs.OnLiterals.{url_on_literals}
-use Rattle.cat_ref.specs.Names.{is_kind, is_name, is_namespace, is_subdomain, is_key, is_tag, is_location_type, is_shelf_name}
-use Rattle.cat_ref.specs.Reference.{named}
-use Rattle.cat_ref.specs.Reading.{reading}
+use Rattle.cat_types.specs.Names.{is_kind, is_name, is_namespace, is_subdomain, is_key, is_tag, is_location_type, is_shelf_name}
+use Rattle.cat_types.specs.Reference.{named}
+use Rattle.cat_types.specs.Reading.{reading}
 use Rattle.cat_schema.specs.Rules.{rule_19, rule_20, rule_21, rule_22, rule_23, rule_24, of_metadata, of_spec, of_root, breaches}
 use Rattle.cat_schema.specs.Faults.{field, members, values, keys, member_fields}
 use Rattle.cat_target.specs.Base.{base_named}
@@ -30,7 +30,7 @@ use Rattle.cat_model.specs.Settle.{try_settle}
 use Rattle.cat_commands.specs.Lines.{line_of}
 use Rattle.cat_commands.specs.Queries.{cursor_of, query_of}
 use Rattle.cat_commands.specs.References.{references_of}
-use Rattle.cat_loop.specs.Runs.{line_after, line_reply}
+use Rattle.cat_io.specs.Runs.{line_after, line_reply}
 use Rattle.cat_transcript.specs.Session.{session_after, session_reply}
 
 unfoldable pub on_literals : ⊤

@@ -2,9 +2,9 @@
 use Rattle.std.specs.Prelude.{ℕ, List, [], ◌∷◌, ◌++◌, map, codes}
 use Rattle.cat_table.specs.Table.{Text}
 use Rattle.cat_layers.specs.Layered.{layered}
-use Rattle.cat_loop.specs.Lines.{lines as lines_of}
-use Rattle.cat_loop.specs.Runs.{after_lines, replies}
-use Rattle.cat_loop.specs.Word.{Word, plain}
+use Rattle.cat_io.specs.Lines.{lines as lines_of}
+use Rattle.cat_io.specs.Runs.{after_lines, replies}
+use Rattle.cat_io.specs.Word.{Word, plain}
 use Rattle.cat_model.specs.declared.types.OrphanRule.{OrphanRule}
 use Rattle.cat_model.specs.declared.types.OrphanRule.TheVariants.{Keep}
 use Rattle.cat_transcript.specs.Program.{program_settings, session_start}

@@ -1,7 +1,7 @@
 //! What is cut or refused: want of memory, the limit on the stored input, and a spent counter.
 ghost use Rattle.std.specs.Prelude.{◌≡◌, [], ◌∷◌, None, Some, codes, length};
 ghost use Rattle.cat_tree.specs.Text.{text_of};
-ghost use Rattle.cat_loop.specs.Word.{plain, memory, cut};
+ghost use Rattle.cat_io.specs.Word.{plain, memory, cut};
 ghost use Rattle.cat_model.specs.Step.{refusal, start, step};
 ghost use Rattle.cat_model.specs.Step.Event.{Mutate, Take};
 ghost use Rattle.cat_model.specs.declared.types.Counter.TheVariants.{Token};

@@ -2,7 +2,7 @@
 ghost use Rattle.std.specs.Prelude.{◌≡◌, true, [], ◌∷◌, None, Ok, Err, codes, pos, negsuc};
 ghost use Rattle.cat_tree.specs.Data.{null, flag, whole, words, list, dict, items_of, members_of};
 ghost use Rattle.cat_tree.specs.declared.read.TreeFault.TheVariants.{Fraction, Syntax};
-ghost use Rattle.cat_ref.specs.declared.fault.RefFault.TheVariants.{NoKind};
+ghost use Rattle.cat_types.specs.declared.fault.RefFault.TheVariants.{NoKind};
 ghost use Rattle.cat_types.specs.declared.input.Mutation.TheVariants.{Full, Delta};
 ghost use Rattle.cat_inputs.specs.Reading.{tree_reading};
 ghost use Rattle.cat_inputs.specs.declared.fault.InputFault.TheVariants.{Json, NoRef, Shape};
@@ -12,7 +12,7 @@ ghost use Rattle.cat_commands.specs.declared.fault.LineFault.TheVariants.{BadWor
 ghost use Rattle.cat_query.specs.declared.ask.Ask.TheVariants.{Get, Many, Quiet};
 ghost use Rattle.cat_query.specs.declared.fault.QueryFault.TheVariants.{BadLimit};
 ghost use Rattle.cat_commands.specs.declared.line.Line.TheVariants.{Ask, Mutate, ShelfPut, Clock, Finish, Settle};
-ghost use Rattle.cat_loop.specs.Lines.{lines};
+ghost use Rattle.cat_io.specs.Lines.{lines};
 
 /// An LF ends a line, one CR before it doesn't belong to the line, and a last line needs no LF.
 pub fn lines_are_cut()

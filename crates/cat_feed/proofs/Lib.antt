@@ -3,3 +3,5 @@ pub mod Walked
 pub mod Leads
 pub mod Kept
 pub mod Asked
+pub mod Texts
+pub mod Mirrored

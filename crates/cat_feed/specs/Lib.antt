@@ -2,3 +2,8 @@ pub mod Changes
 pub mod Walk
 pub mod Rest
 pub mod Feed
+pub mod Place
+pub mod Written
+pub mod Read
+pub mod Mirror
+pub mod Turns

@@ -3,10 +3,10 @@ ghost use Rattle.std.specs.Prelude.{◌≡◌, IfOk, OnOk};
 ghost use Rattle.cat_feed.specs.Changes.{applied, with_set};
 
 use crate::change::Change;
-use cat_ref::reference::Ref;
 use cat_table::listing::Copied;
 use cat_table::map::Map;
 use cat_types::node::Node;
+use cat_types::reference::Ref;
 use std::alloc::{AllocError, Global};
 
 /// The documents after the changes, one after the other. They share what the changes leave as it is, and the trees that the

@@ -5,12 +5,12 @@ ghost use Rattle.cat_feed.specs.Changes.{Difference, Documents, differences, set
 ghost use Rattle.cat_feed.specs.Rest.{left};
 ghost use Rattle.cat_feed.specs.Walk.{unless_same, walked_at};
 
-use cat_ref::reference::Ref;
 use cat_table::key::Key;
 use cat_table::listing::Copied;
 use cat_table::map::Map;
 use cat_table::tree::Items;
 use cat_types::node::Node;
+use cat_types::reference::Ref;
 use std::alloc::{AllocError, Global};
 use std::cmp::Ordering;
 

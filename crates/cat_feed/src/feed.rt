@@ -10,10 +10,10 @@ use crate::change::{Changes, Since};
 use crate::differences::differences;
 use crate::fault::FeedFault;
 use crate::ledger::{Ledger, answer, with_changes};
-use cat_ref::reference::Ref;
 use cat_table::listing::Listing;
 use cat_table::map::Map;
 use cat_types::node::Node;
+use cat_types::reference::Ref;
 use std::alloc::Global;
 use std::marker::Model;
 

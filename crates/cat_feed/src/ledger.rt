@@ -7,10 +7,10 @@ use crate::apply::applied;
 use crate::change::{Change, ChangeList, Changes, Since};
 use crate::differences::Difference;
 use crate::fault::FeedFault;
-use cat_ref::reference::Ref;
 use cat_table::listing::{Copied, Listing};
 use cat_table::map::Map;
 use cat_types::node::Node;
+use cat_types::reference::Ref;
 use std::alloc::{AllocError, Global};
 
 const LAST_NUMBER: u64 = 1 << 59;

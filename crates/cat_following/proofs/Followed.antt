@@ -9,10 +9,10 @@ use Rattle.std.specs.Io.KnownBytes.{Appends, Consumes, Keeps, IsAtEnd}
 use Rattle.std.specs.Str.Lines.{strip_carriage_return}
 use Rattle.cat_io.proofs.Known.{Appends_then, Appends_then_keeps, Consumes_then, Consumes_then_keeps}
 use Rattle.cat_io.specs.Sink.{AppendsFront}
-use Rattle.cat_loop.proofs.Cutting.{last_line_some, lines-append, rest_from-append, rest_from-no_lf, whole_from-append, whole_from-no_lf}
-use Rattle.cat_loop.specs.Lines.{HasNoLf, last_line, lines, rest_from, whole_from, whole_lines}
-use Rattle.cat_mirror.specs.Mirror.{empty}
-use Rattle.cat_mirror.specs.declared.mirror.Mirror.{Mirror}
+use Rattle.cat_io.proofs.Cutting.{last_line_some, lines-append, rest_from-append, rest_from-no_lf, whole_from-append, whole_from-no_lf}
+use Rattle.cat_io.specs.Lines.{HasNoLf, last_line, lines, rest_from, whole_from, whole_lines}
+use Rattle.cat_feed.specs.Mirror.{empty}
+use Rattle.cat_feed.specs.declared.mirror.Mirror.{Mirror}
 use Rattle.cat_following.specs.Answers.{answers, documents_line, mirror_after, mirror_answer, mirror_next, mirror_out}
 use Rattle.cat_following.specs.Following.{AnswersSome, AppendsSome, HasAnswered, HasFollowed, IsBroken, IsCut, IsStopped, IsWhole, Stops}
 use Rattle.cat_following.specs.declared.line.TheConstants.{LINE_LIMIT, ROOM}

@@ -6,13 +6,13 @@ use Rattle.cat_tree.specs.declared.read.TreeFault.TheVariants as tree
 use Rattle.cat_feed.specs.Changes.{Documents}
 use Rattle.cat_feed.specs.declared.change.Changes.{Changes}
 use Rattle.cat_feed.specs.declared.change.Since.{Since}
-use Rattle.cat_changes.specs.Place.{since_text}
-use Rattle.cat_changes.specs.Read.{changes_of, field_text}
-use Rattle.cat_changes.specs.declared.fault.ChangesFault.{ChangesFault}
-use Rattle.cat_changes.specs.declared.fault.ChangesFault.TheVariants as fault
-use Rattle.cat_loop.specs.Lines.{lines}
-use Rattle.cat_mirror.specs.Mirror.{empty, leads_on, mirrored}
-use Rattle.cat_mirror.specs.declared.mirror.Mirror.{Mirror}
+use Rattle.cat_feed.specs.Place.{since_text}
+use Rattle.cat_feed.specs.Read.{changes_of, field_text}
+use Rattle.cat_feed.specs.declared.text_fault.ChangesFault.{ChangesFault}
+use Rattle.cat_feed.specs.declared.text_fault.ChangesFault.TheVariants as fault
+use Rattle.cat_io.specs.Lines.{lines}
+use Rattle.cat_feed.specs.Mirror.{empty, leads_on, mirrored}
+use Rattle.cat_feed.specs.declared.mirror.Mirror.{Mirror}
 use Rattle.cat_following.specs.declared.line.TheConstants.{LINE_LIMIT}
 
 -- ---- one line

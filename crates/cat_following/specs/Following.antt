@@ -2,9 +2,9 @@
 use Rattle.std.specs.Prelude.{◌≡◌, ℕ, ◌^◌, ◌≤◌, ◌⊎◌, List, [], Option, length, take}
 use Rattle.std.specs.Io.KnownBytes.{Appends, Consumes, IsAtEnd, Keeps}
 use Rattle.cat_io.specs.Sink.{AppendsFront}
-use Rattle.cat_loop.specs.Lines.{lines, rest_from, whole_lines}
-use Rattle.cat_mirror.specs.Mirror.{empty}
-use Rattle.cat_mirror.specs.declared.mirror.Mirror.{Mirror}
+use Rattle.cat_io.specs.Lines.{lines, rest_from, whole_lines}
+use Rattle.cat_feed.specs.Mirror.{empty}
+use Rattle.cat_feed.specs.declared.mirror.Mirror.{Mirror}
 use Rattle.cat_following.specs.Answers.{answers, mirror_after, mirror_out}
 use Rattle.cat_following.specs.declared.line.TheConstants.{ROOM}
 use Rattle.cat_following.specs.declared.lines.Following.{Following}

@@ -6,16 +6,16 @@ ghost use Rattle.cat_tree.specs.Text.{json_items, text_of};
 ghost use Rattle.cat_following.specs.Answers as spec;
 
 use crate::line::LINE_LIMIT;
-use cat_changes::fault::ChangesFault;
-use cat_changes::place::since_text;
-use cat_changes::read::read_changes;
 use cat_feed::change::{Changes, Since};
-use cat_mirror::mirror::{Mirror, MirrorFault};
+use cat_feed::mirror::{Mirror, MirrorFault};
+use cat_feed::place::since_text;
+use cat_feed::read::read_changes;
+use cat_feed::text_fault::ChangesFault;
 use cat_query::answers::push_tree;
-use cat_ref::reference::Ref;
 use cat_table::map::Map;
 use cat_tree::read::TreeFault;
 use cat_types::node::Node;
+use cat_types::reference::Ref;
 use std::alloc::{AllocError, Global};
 
 // A line of two texts.

@@ -3,7 +3,7 @@
 //!
 //! `follow` reads the bytes of a source, cuts them into lines, answers each line before it reads on, and writes at the end the list of
 //! the documents. A line may be as long as a whole feed's text, so its memory is taken as it comes, and want of memory may end the work
-//! at any line. It stands on cat_changes, which reads a line as changes, on cat_mirror, which applies them, on cat_loop for what the
+//! at any line. It stands on cat_feed, which reads a line as changes and applies them, on cat_io for what the
 //! lines of bytes are, on cat_query for the text of documents, and on cat_io for the ends.
 //!
 //! The promise: where all input was read, the bytes written are the answers to its lines and the list of the documents of a mirror that

@@ -2,7 +2,7 @@
 
 ghost use Rattle.std.specs.Prelude.{◌≡◌, ℕ, ◌≤◌, ◌++◌, ◌∷◌, [], List, IfSome, IfNone, OnOk, length, take};
 ghost use Rattle.std.specs.Str.Lines.{strip_carriage_return};
-ghost use Rattle.cat_loop.specs.Lines.{HasNoLf};
+ghost use Rattle.cat_io.specs.Lines.{HasNoLf};
 ghost use Rattle.cat_following.specs.declared.line.TheConstants.{ROOM};
 
 use memchr::memchr;

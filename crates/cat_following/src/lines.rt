@@ -5,17 +5,17 @@ ghost use Rattle.std.specs.declared.option.Option.{Option};
 ghost use Rattle.std.specs.Io.KnownBytes.{Appends};
 ghost use Rattle.cat_io.specs.Causes.{Rose};
 ghost use Rattle.cat_io.specs.Source.{Reads};
-ghost use Rattle.cat_loop.specs.Session.{IsAtMost};
-ghost use Rattle.cat_loop.specs.Lines.{lines, whole_lines};
-ghost use Rattle.cat_mirror.specs.Mirror.{empty};
+ghost use Rattle.cat_io.specs.Session.{IsAtMost};
+ghost use Rattle.cat_io.specs.Lines.{lines, whole_lines};
+ghost use Rattle.cat_feed.specs.Mirror.{empty};
 ghost use Rattle.cat_following.specs.Answers as spec;
 ghost use Rattle.cat_following.specs.Following.{AppendsSome, HasAnswered, HasFollowed, IsBroken, IsCut, IsStopped, IsWhole};
 
 use crate::answer::{answer, documents_line};
 use crate::line::{LineBuffer, split_line};
 use crate::stop::Stop;
+use cat_feed::mirror::Mirror;
 use cat_io::{ReadAnswer, Sink, Source, write_all};
-use cat_mirror::mirror::Mirror;
 use std::alloc::{AllocError, Global};
 
 /// The most bytes that are taken.

@@ -6,8 +6,8 @@ use Rattle.cat_tree.specs.Ask.{child_of, member_at}
 use Rattle.cat_tree.specs.Data.{Data, null, flag, whole, words, list, dict, Items, no_items, item, Members, no_members, member}
 use Rattle.cat_tree.specs.Proper.{IsProper, ItemsProper, MembersProper}
 use Rattle.cat_tree.specs.declared.read.TreeFault.{TreeFault}
-use Rattle.cat_ref.specs.Reference.{described}
-use Rattle.cat_ref.specs.declared.fault.RefFault.{RefFault}
+use Rattle.cat_types.specs.Reference.{described}
+use Rattle.cat_types.specs.declared.fault.RefFault.{RefFault}
 use Rattle.cat_table.specs.Table.{Text}
 use Rattle.cat_types.specs.declared.input.Item.{Item}
 use Rattle.cat_types.specs.declared.input.Mutation.{Mutation}
@@ -23,8 +23,8 @@ use Rattle.cat_inputs.specs.declared.fault.Place.TheVariants.{Entities, Added, R
 use Rattle.cat_inputs.specs.declared.form.Form.{Form}
 use Rattle.cat_inputs.specs.declared.form.Form.TheVariants.{Full, Delta}
 use Rattle.cat_inputs.proofs.Formed.{formed_result}
-use Rattle.cat_offers.proofs.Listed.{bound, fronted}
-use Rattle.cat_offers.proofs.Read.{IsSoundTree, tree_reading_is}
+use Rattle.cat_layers.proofs.Listed.{bound, fronted}
+use Rattle.cat_layers.proofs.Read.{IsSoundTree, tree_reading_is}
 use Rattle.cat_forms.specs.Ready.{HasProperTree, HasProperTrees}
 
 -- ---- the entries of a body

@@ -5,7 +5,7 @@ use Rattle.cat_tree.specs.Ask.{child_of}
 use Rattle.cat_tree.specs.Data.{Data, null, flag, whole, words, list, dict}
 use Rattle.cat_tree.specs.Edit.{with_key}
 use Rattle.cat_tree.proofs.Edits.{child_of-with_key_other, child_of-without_key_other}
-use Rattle.cat_ref.specs.Reference.{described, is_map, part_or, named_in}
+use Rattle.cat_types.specs.Reference.{described, is_map, part_or, named_in}
 use Rattle.cat_schema.specs.Forms.{may_be_there}
 use Rattle.cat_table.specs.Table.{Text}
 use Rattle.cat_types.specs.declared.issue.Issue.{Issue}
@@ -14,10 +14,10 @@ use Rattle.cat_kinds.specs.Kinds.{answer, relations_of}
 use Rattle.cat_stitch.specs.Document.{annotation_in, annotations_in, document, orphan_annotations, relations_shown, shown_metadata, status_of, with_orphan_mark, with_shown_metadata, with_status, with_uid}
 use Rattle.cat_stitch.specs.Uid.{uid}
 use Rattle.cat_layers.specs.Layered.{entity_relations, relations_in}
-use Rattle.cat_offers.specs.Forms.{IsProcessed}
-use Rattle.cat_offers.proofs.Edits.{child_of-put}
-use Rattle.cat_offers.proofs.Entities.{child_of-put_map, map_by}
-use Rattle.cat_offers.proofs.Offers.{is_map-with_key, named_alike}
+use Rattle.cat_layers.specs.Forms.{IsProcessed}
+use Rattle.cat_layers.proofs.Edits.{child_of-put}
+use Rattle.cat_layers.proofs.Entities.{child_of-put_map, map_by}
+use Rattle.cat_layers.proofs.Offers.{is_map-with_key, named_alike}
 
 -- the relations of a processed entity are all that its reference fields state
 pub all_relations : (t : Data) (r : Text) → IsProcessed t r → entity_relations t r ≡ relations_of t r

@@ -2,7 +2,7 @@
 use Rattle.std.proofs.Common.{◌≡◌, ◌+◌, ◌≤◌, true, List, [], ◌∷◌, ◌++◌, Option, None, Some, IfSome, nat_le, length, codes, arith, length-append}
 use Rattle.std.specs.List.{AllByRecursion}
 use Rattle.std.proofs.lemmas.Bool.{and_parts, leb-true}
-use Rattle.cat_ref.specs.Names.{is_name}
+use Rattle.cat_types.specs.Names.{is_name}
 use Rattle.cat_table.specs.Table.{Text, get}
 use Rattle.cat_types.specs.declared.input.Item.{Item}
 use Rattle.cat_types.specs.declared.input.Mutation.{Mutation}
@@ -11,9 +11,9 @@ use Rattle.cat_types.specs.declared.input.Offered.{Offered}
 use Rattle.cat_inputs.specs.WellFormed.{IsItem, IsWellFormed}
 use Rattle.cat_model.specs.Formed.{IsFormedGiven}
 use Rattle.cat_model.specs.Given.{provider_key, key_or, offered_by, offers_of, given}
-use Rattle.cat_offers.specs.Forms.{is_item}
-use Rattle.cat_offers.proofs.Forms.{offer_holds}
-use Rattle.cat_offers.proofs.Offers.{MayStand, found_stands}
+use Rattle.cat_layers.specs.Forms.{is_item}
+use Rattle.cat_layers.proofs.Forms.{offer_holds}
+use Rattle.cat_layers.proofs.Offers.{MayStand, found_stands}
 use Rattle.cat_forms.specs.Ready.{HasProperTree, HasProperTrees}
 use Rattle.cat_forms.specs.Real.{real_forms}
 

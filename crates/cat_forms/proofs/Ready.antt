@@ -2,7 +2,7 @@
 use Rattle.std.proofs.Common.{◌≡◌, ℕ, ◌^◌, Bool, true, false, List, [], Option, None, Some, Result, Ok, Err, IfOk, if◌then◌else◌, nat_lt, length, refl, subst}
 use Rattle.std.proofs.lemmas.Bool.{ltb-true}
 use Rattle.std.specs.Option.{ok_or}
-use Rattle.cat_ref.specs.Names.{is_name, is_shelf_name}
+use Rattle.cat_types.specs.Names.{is_name, is_shelf_name}
 use Rattle.cat_table.specs.Table.{Text}
 use Rattle.cat_types.specs.declared.input.Mutation.{Mutation}
 use Rattle.cat_inputs.specs.Inputs.{mutation_of}

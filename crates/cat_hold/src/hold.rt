@@ -4,8 +4,8 @@ ghost use Rattle.cat_model.specs.Catalogue.{held, holding};
 
 use cat_model::rows::IndexedRows;
 use cat_model::types::Row;
-use cat_ref::reference::Ref;
 use cat_table::map::Map;
+use cat_types::reference::Ref;
 
 /// Whether a row holds the reference.
 pub fn is_held(holders: &Map<Ref, u64>, reference: &Ref) -> bool

@@ -2,12 +2,12 @@
 ghost use Rattle.std.specs.Prelude.{◌≡◌, IfOk};
 
 use cat_model::types::ProviderInputs;
-use cat_ref::reference::Ref;
 use cat_table::listing::Listing;
 use cat_table::map::Map;
 use cat_tree::text::Text;
 use cat_types::node::Node;
 use cat_types::parts::Parts;
+use cat_types::reference::Ref;
 use cat_types::relation::Relation;
 use cat_types::work::{Content, Outcome, Work};
 use std::alloc::{AllocError, Global};

@@ -6,3 +6,10 @@ pub mod SentTurns
 pub mod SentBooks
 pub mod SentHelpers
 pub mod SentStores
+pub mod Standing
+pub mod Present
+pub mod Leading
+pub mod Losing
+pub mod Noting
+pub mod Keeping
+pub mod Sharing

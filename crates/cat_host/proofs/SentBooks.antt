@@ -17,16 +17,16 @@ use Rattle.cat_core.specs.contracts.catalogue.Saved as Saved
 use Rattle.cat_core.specs.contracts.catalogue.Saved.TheInside as saved
 use Rattle.cat_desk.specs.contracts.command.Reply as Reply
 use Rattle.cat_desk.specs.contracts.timed.Timed as Timed
-use Rattle.cat_api.specs.cat_fed.specs.contracts.fed.Fed as Fed
+use Rattle.cat_desk.specs.contracts.fed.Fed as Fed
 use Rattle.cat_turns.specs.contracts.turns.Turns as Turns
-use Rattle.cat_shared.specs.declared.book.Named as Named
-use Rattle.cat_shared.specs.contracts.book.Book as Book
-use Rattle.cat_shared.specs.contracts.entry.Entry as Entry
-use Rattle.cat_shared.specs.contracts.entry.Input as Input
-use Rattle.cat_shared.specs.contracts.entry.Noted as Noted
-use Rattle.cat_shared.specs.contracts.shared.SharedDesk as SharedDesk
-use Rattle.cat_shared.specs.declared.timed.TimedDesk as TimedDesk
-use Rattle.cat_shared.specs.contracts.tells.BookTells.TheImpl as tells
+use Rattle.cat_host.specs.declared.book.Named as Named
+use Rattle.cat_host.specs.contracts.book.Book as Book
+use Rattle.cat_host.specs.contracts.entry.Entry as Entry
+use Rattle.cat_host.specs.contracts.entry.Input as Input
+use Rattle.cat_host.specs.contracts.entry.Noted as Noted
+use Rattle.cat_host.specs.contracts.shared.SharedDesk as SharedDesk
+use Rattle.cat_host.specs.declared.timed.TimedDesk as TimedDesk
+use Rattle.cat_host.specs.contracts.tells.BookTells.TheImpl as tells
 use Rattle.cat_host.proofs.SentStates.{known, state_send, links_send, Map-send, Map-sync}
 use Rattle.cat_host.proofs.SentTurns.{turns_sync, pass_send}
 

@@ -1,6 +1,6 @@
 -- What a connection does to the machine that answers it.
 use Rattle.std.specs.Prelude.{IfSome}
-use Rattle.cat_serve.specs.Exchange.{Exchange}
+use Rattle.cat_doors.specs.Exchange.{Exchange}
 use Rattle.cat_wire.specs.Connection.{Outcome, Run, Transcript}
 use Rattle.cat_wire.specs.declared.message_loop.ConnEnd.{ConnEnd}
 

@@ -1,3 +1,6 @@
 pub mod Answered
 pub mod Worked
-pub use Rattle.cat_shared
+pub mod Notes
+pub mod Replay
+pub mod Book
+pub mod Shared

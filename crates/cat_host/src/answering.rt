@@ -3,8 +3,8 @@ ghost use Rattle.std.specs.Prelude.{◌≡◌};
 ghost use Rattle.cat_host.specs.Answered.{Answered};
 ghost use Rattle.cat_wire.specs.Runs.{AnswersItems};
 
+use cat_doors::Server;
 use cat_io::{Sink, Source};
-use cat_serve::Server;
 use cat_wire::{Machine, connection};
 use std::alloc::Global;
 

@@ -1,15 +1,15 @@
 //! A share of a book, as the desk of a worker.
 ghost use Rattle.std.specs.Prelude.{◌≡◌};
-ghost use Rattle.cat_shared.specs.Shared.{SharedActs};
+ghost use Rattle.cat_host.specs.Shared.{SharedActs};
 
+use crate::book::Named;
+use crate::shared::SharedDesk;
+use crate::timed::TimedDesk;
 use cat_core::catalogue::{Done, Stitched};
 use cat_desk::command::{Command, Reply};
 use cat_desk::desk::Desk;
 use cat_hold::layers::Layers;
 use cat_model::types::{Order, StitchOrder};
-use cat_shared::book::Named;
-use cat_shared::shared::SharedDesk;
-use cat_shared::timed::TimedDesk;
 use cat_work::desk::WorkDesk;
 use std::alloc::{AllocError, Global};
 use std::sync::Wait;

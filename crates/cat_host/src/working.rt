@@ -2,7 +2,7 @@
 ghost use Rattle.std.specs.Prelude.{◌≡◌};
 ghost use Rattle.cat_host.specs.Worked.{Works};
 
-use cat_serve::{Running, Worker};
+use cat_doors::{Running, Worker};
 use cat_work::desk::WorkDesk;
 use cat_work::gate::{Gate, GateCall, Go};
 use cat_work::stitch::stitch_loop;

@@ -6,8 +6,8 @@ use Rattle.std.specs.Option.{ok_or}
 use Rattle.cat_tree.specs.Ask.{child_of, member_at}
 use Rattle.cat_tree.specs.Data.{Data, null, flag, whole, words, list, dict, Items, no_items, item, Members, no_members, member}
 use Rattle.cat_tree.specs.Proper.{IsNarrow, ItemsNarrow, MembersNarrow}
-use Rattle.cat_ref.specs.Reference.{described, text_in}
-use Rattle.cat_ref.specs.declared.fault.RefFault.{RefFault}
+use Rattle.cat_types.specs.Reference.{described, text_in}
+use Rattle.cat_types.specs.declared.fault.RefFault.{RefFault}
 use Rattle.cat_table.specs.Table.{Text}
 use Rattle.cat_types.specs.declared.input.Item.{Item}
 use Rattle.cat_types.specs.declared.input.Mutation.{Mutation}

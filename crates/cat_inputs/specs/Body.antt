@@ -3,7 +3,7 @@ use Rattle.std.specs.Prelude.{ℕ, suc, ◌^◌, pos, negsuc, Bool, List, [], �
 use Rattle.std.specs.Option.{ok_or}
 use Rattle.cat_tree.specs.Ask.{child_of}
 use Rattle.cat_tree.specs.Data.{Data, null, flag, whole, words, list, dict, Items, no_items, item}
-use Rattle.cat_ref.specs.Reference.{text_in}
+use Rattle.cat_types.specs.Reference.{text_in}
 use Rattle.cat_inputs.specs.declared.fault.InputFault.{InputFault}
 use Rattle.cat_inputs.specs.declared.fault.InputFault.TheVariants.{Shape}
 use Rattle.cat_inputs.specs.declared.fault.Place.{Place}

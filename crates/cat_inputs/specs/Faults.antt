@@ -1,7 +1,7 @@
 -- How the faults of what is read below become faults of a mutation's body or of a shelf text.
 use Rattle.std.specs.Prelude.{ℕ, List, codes}
-use Rattle.cat_ref.specs.declared.fault.RefFault.{RefFault}
-use Rattle.cat_ref.specs.declared.fault.RefFault.TheVariants as ref
+use Rattle.cat_types.specs.declared.fault.RefFault.{RefFault}
+use Rattle.cat_types.specs.declared.fault.RefFault.TheVariants as ref
 use Rattle.cat_tree.specs.declared.read.TreeFault.{TreeFault}
 use Rattle.cat_tree.specs.declared.read.TreeFault.TheVariants as tree
 use Rattle.cat_inputs.specs.declared.fault.InputFault.{InputFault}

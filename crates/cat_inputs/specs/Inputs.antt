@@ -4,8 +4,8 @@ use Rattle.std.specs.List.{list_any}
 use Rattle.cat_tree.specs.Ask.{depth_of}
 use Rattle.cat_tree.specs.Data.{Data}
 use Rattle.cat_tree.specs.declared.read.TreeFault.{TreeFault}
-use Rattle.cat_ref.specs.Reference.{described, parsed}
-use Rattle.cat_ref.specs.declared.fault.RefFault.{RefFault}
+use Rattle.cat_types.specs.Reference.{described, parsed}
+use Rattle.cat_types.specs.declared.fault.RefFault.{RefFault}
 use Rattle.cat_table.specs.Table.{Text}
 use Rattle.cat_types.specs.declared.input.Item.{Item}
 use Rattle.cat_types.specs.declared.input.Mutation.{Mutation}

@@ -5,4 +5,3 @@ pub mod Lent
 pub mod Inputs
 pub mod Shelf
 pub mod WellFormed
-pub use Rattle.cat_types

@@ -2,8 +2,8 @@
 use Rattle.std.specs.Prelude.{ℕ, List, [], ◌∷◌, Option, None, Some, Result, Ok, Err, if◌then◌else◌}
 use Rattle.cat_tree.specs.Data.{Data, null, flag, whole, words, list, dict, Items, no_items, item}
 use Rattle.cat_tree.specs.declared.read.TreeFault.{TreeFault}
-use Rattle.cat_ref.specs.Reference.{described, is_map}
-use Rattle.cat_ref.specs.declared.fault.RefFault.{RefFault}
+use Rattle.cat_types.specs.Reference.{described, is_map}
+use Rattle.cat_types.specs.declared.fault.RefFault.{RefFault}
 use Rattle.cat_table.specs.Table.{Text}
 use Rattle.cat_inputs.specs.declared.fault.ShelfFault.{ShelfFault}
 use Rattle.cat_inputs.specs.declared.fault.ShelfFault.TheVariants.{Shape, Deep}

@@ -3,7 +3,7 @@ use Rattle.std.specs.Prelude.{◌≡◌, ℕ, ◌^◌, ◌<◌, ◌≤◌, List,
 use Rattle.std.specs.List.{list_any, AllByRecursion}
 use Rattle.cat_tree.specs.Ask.{depth_of}
 use Rattle.cat_tree.specs.Proper.{IsNarrow}
-use Rattle.cat_ref.specs.Reference.{described}
+use Rattle.cat_types.specs.Reference.{described}
 use Rattle.cat_table.specs.Table.{Text}
 use Rattle.cat_types.specs.declared.input.Item.{Item}
 use Rattle.cat_types.specs.declared.input.Mutation.{Mutation}

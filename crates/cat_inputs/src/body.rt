@@ -3,15 +3,15 @@ ghost use Rattle.std.specs.Prelude.{◌≡◌, ◌⊎◌, ◌<◌, map, option_m
 ghost use Rattle.std.specs.Option.{option_copied};
 ghost use Rattle.cat_tree.specs.Data.{items_of};
 ghost use Rattle.cat_tree.specs.View.{data_of};
-ghost use Rattle.cat_ref.specs.Reference.{text_in};
+ghost use Rattle.cat_types.specs.Reference.{text_in};
 ghost use Rattle.cat_inputs.specs.Body as spec;
 ghost use Rattle.cat_inputs.specs.Lent.{entry_of, body_of};
 
 use crate::fault::{InputFault, Place};
 use crate::form::Form;
-use cat_ref::reference::text_in;
 use cat_tree::ask::child;
 use cat_tree::tree::Tree;
+use cat_types::reference::text_in;
 use std::alloc::Global;
 
 const LEAST_SERIAL: i128 = 1;

@@ -2,8 +2,8 @@
 ghost use Rattle.std.specs.Prelude.{◌≡◌};
 ghost use Rattle.cat_inputs.specs.Faults.{place_text, json_fault, text_fault, unnamed, unlisted};
 
-use cat_ref::fault::RefFault;
 use cat_tree::read::TreeFault;
+use cat_types::fault::RefFault;
 use std::alloc::{AllocError, AllocFailed};
 use std::fmt;
 use thiserror::Error;

@@ -11,10 +11,10 @@ use crate::fault::{InputFault, json_fault};
 use crate::form::Form;
 use crate::refs::{first_deep, items_of, refs_of, repeated};
 use crate::text::read_tree;
-use cat_ref::reference::Ref;
 use cat_table::listing::Listing;
 use cat_tree::tree::Tree;
 use cat_types::input::{Item, Mutation};
+use cat_types::reference::Ref;
 use std::alloc::Global;
 
 const MOST_ITEMS: usize = 100_000;

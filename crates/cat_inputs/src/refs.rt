@@ -8,13 +8,13 @@ ghost use Rattle.cat_inputs.specs.Lent.{entry_of};
 
 use crate::body::Entry;
 use crate::fault::{InputFault, unnamed};
-use cat_ref::reference::{Ref, parse, ref_of};
 use cat_tree::ask::depth;
 use cat_tree::clone::copy;
 use cat_tree::text::Text;
 use cat_tree::tree::Tree;
 use cat_types::input::Item;
 use cat_types::node::Node;
+use cat_types::reference::{Ref, parse, ref_of};
 use std::alloc::{AllocError, Global};
 use std::collections::BTreeSet;
 

@@ -9,11 +9,11 @@ ghost use Rattle.cat_inputs.specs.Shelf as spec;
 use crate::fault::{ShelfFault, text_fault, unlisted};
 use crate::refs::is_deep;
 use crate::text::read_text;
-use cat_ref::reference::{Ref, ref_of};
 use cat_table::listing::Listing;
 use cat_tree::clone::copy;
 use cat_tree::tree::Tree;
 use cat_types::node::Node;
+use cat_types::reference::{Ref, ref_of};
 use std::alloc::Global;
 
 /// A descriptor of a shelf text, under the reference that it names.

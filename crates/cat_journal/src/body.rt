@@ -10,12 +10,12 @@ ghost use Rattle.cat_journal.specs.Parsed as parsed;
 
 use cat_keeper::rows::{Batch, Change};
 use cat_keeper::table::Table;
-use cat_ref::reference::text_in;
 use cat_table::map::rise;
 use cat_tree::read::{TreeFault, read};
 use cat_tree::text::Text;
 use cat_tree::tree::{Tree, Trees};
 use cat_tree::write::write;
+use cat_types::reference::text_in;
 use std::alloc::{AllocError, AllocFailed, Global};
 
 /// Why a body gives no batch.

@@ -3,3 +3,4 @@ pub mod SentStores
 pub mod SentSqlite
 pub mod SentMaps
 pub mod SentFiles
+mod Kept

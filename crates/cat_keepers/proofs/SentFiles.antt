@@ -19,10 +19,10 @@ use Rattle.cat_keeper.specs.contracts.memory.MemoryKeeper as MemoryKeeper
 use Rattle.cat_keeper.specs.contracts.memory.MemoryKeeper.TheInside as memory
 use Rattle.cat_journal.specs.contracts.keeper.JournalKeeper as JournalKeeper
 use Rattle.cat_journal.specs.contracts.keeper.JournalKeeper.TheInside as journal
-use Rattle.cat_keeper_sql.specs.contracts.place.PlaceKeeper as PlaceKeeper
-use Rattle.cat_keeper_sql.specs.contracts.place.PlaceKeeper.TheInside as place
-use Rattle.cat_keeper_sql.specs.contracts.place.Store as Kept
-use Rattle.cat_keeper_sql.specs.contracts.sql.SqlKeeper as SqlKeeper
+use Rattle.cat_keepers.specs.contracts.place.PlaceKeeper as PlaceKeeper
+use Rattle.cat_keepers.specs.contracts.place.PlaceKeeper.TheInside as place
+use Rattle.cat_keepers.specs.contracts.place.Store as Kept
+use Rattle.cat_keepers.specs.contracts.sql.SqlKeeper as SqlKeeper
 use Rattle.cat_keepers.specs.contracts.file.FileDisk as FileDisk
 use Rattle.cat_keepers.specs.contracts.file.FileDiskDisk.TheImpl as disk
 use Rattle.cat_keepers.specs.contracts.files.ToolFile as ToolFile

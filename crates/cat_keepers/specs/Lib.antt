@@ -1,1 +1,4 @@
 pub mod Files
+pub mod Refusals
+pub mod Kept
+pub mod Places

@@ -6,12 +6,12 @@ ghost use Rattle.cat_keeper.specs.declared.keeper.Place.{Place};
 ghost use Rattle.cat_keepers.specs.Files.{faults_of};
 
 use crate::file::FileDisk;
+use crate::place::{Opener, SqlFiles};
+use crate::refusal::Refusal;
+use crate::sql::SqlKeeper;
 use cat_journal::keeper::JournalKeeper;
 use cat_keeper::keeper::{Committed, Keeper, Loaded, Place};
 use cat_keeper::rows::Batch;
-use cat_keeper_sql::place::{Opener, SqlFiles};
-use cat_keeper_sql::refusal::Refusal;
-use cat_keeper_sql::sql::SqlKeeper;
 use cat_tree::text::Text;
 use sqlite::{File, FileStore};
 use std::alloc::Global;

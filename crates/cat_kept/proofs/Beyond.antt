@@ -5,12 +5,12 @@ use Rattle.std.specs.declared.option.Option.{Option}
 use Rattle.std.specs.declared.option.Option.TheVariants.{None, Some}
 use Rattle.cat_commands.specs.declared.line.Line.{Line}
 use Rattle.cat_commands.specs.declared.line.Line.TheVariants as asks
-use Rattle.cat_session.specs.cat_desk.specs.cat_core.specs.declared.ledger.Ledger.{Ledger}
-use Rattle.cat_session.specs.cat_desk.specs.Acts.{Acts, deed_reply, done}
-use Rattle.cat_session.specs.cat_desk.specs.Deed.{Deed}
-use Rattle.cat_session.specs.cat_desk.specs.Deed.Deed.{Mutate, ShelfPut, ShelfDrop, Forget, Finish}
-use Rattle.cat_session.specs.cat_desk.specs.declared.command.Reply.{Reply}
-use Rattle.cat_loop.specs.Word.{Word, plain}
+use Rattle.cat_core.specs.declared.ledger.Ledger.{Ledger}
+use Rattle.cat_desk.specs.Acts.{Acts, deed_reply, done}
+use Rattle.cat_desk.specs.Deed.{Deed}
+use Rattle.cat_desk.specs.Deed.Deed.{Mutate, ShelfPut, ShelfDrop, Forget, Finish}
+use Rattle.cat_desk.specs.declared.command.Reply.{Reply}
+use Rattle.cat_io.specs.Word.{Word, plain}
 use Rattle.cat_model.specs.Catalogue.{Ref, Rules}
 use Rattle.cat_model.specs.Given.{given}
 use Rattle.cat_model.specs.Sound.{Sound}
@@ -18,11 +18,11 @@ use Rattle.cat_model.specs.declared.types.Given.{Given}
 use Rattle.cat_model.specs.declared.types.Order.{Order}
 use Rattle.cat_model.specs.declared.types.Settings.{Settings}
 use Rattle.cat_model.specs.declared.types.State.{State}
-use Rattle.cat_reach.proofs.Stepped.{unchanged}
-use Rattle.cat_reach.specs.Gathered.{IsWithin}
-use Rattle.cat_reach.specs.Reach.{AreSameBeyond, AreSameInputs, given_refs, reached}
-use Rattle.cat_kept_desk.specs.cat_store.specs.cat_renewed.specs.Renewed.{IsBeyond}
-use Rattle.cat_kept_desk.specs.cat_store.specs.cat_renewed.specs.declared.reached.Reached.{Reached}
+use Rattle.cat_reached.proofs.Stepped.{unchanged}
+use Rattle.cat_reached.specs.Gathered.{IsWithin}
+use Rattle.cat_reached.specs.Reach.{AreSameBeyond, AreSameInputs, given_refs, reached}
+use Rattle.cat_renewed.specs.Renewed.{IsBeyond}
+use Rattle.cat_renewed.specs.declared.reached.Reached.{Reached}
 use Rattle.cat_session.specs.Carried.{Carries}
 use Rattle.cat_table.specs.Table.{Text, get}
 use Rattle.cat_transcript.specs.Program.{program_settings}

@@ -1,3 +1,5 @@
 pub mod Lines
 pub mod Beyond
 pub mod Sound
+pub mod Serving
+pub mod Writing

@@ -12,7 +12,7 @@ use Rattle.cat_commands.specs.Lines.{line_of}
 use Rattle.cat_commands.specs.declared.fault.LineFault.{LineFault}
 use Rattle.cat_commands.specs.declared.line.Line.{Line}
 use Rattle.cat_commands.specs.declared.line.Line.TheVariants as asks
-use Rattle.cat_loop.specs.Word.{Word, plain, memory, cut, unkept, cut_unkept, AnswersLine, IsActing}
+use Rattle.cat_io.specs.Word.{Word, plain, memory, cut, unkept, cut_unkept, AnswersLine, IsActing}
 use Rattle.cat_model.specs.Catalogue.{Rules}
 use Rattle.cat_model.specs.Reply.{next_stitch}
 use Rattle.cat_model.specs.Settle.{try_settle}
@@ -24,14 +24,14 @@ use Rattle.cat_model.specs.declared.types.StitchOrder.{StitchOrder}
 use Rattle.cat_session.specs.Carried.{Carries}
 use Rattle.cat_session.specs.Replies.{IsLineRefusal}
 use Rattle.cat_commands.specs.declared.fault.LineFault.TheVariants as faults
-use Rattle.cat_kept_desk.specs.cat_store.proofs.Begun.{first_still}
-use Rattle.cat_kept_desk.specs.cat_store.proofs.Unstored.{put_stitch_still, refresh_still, take_still}
+use Rattle.cat_store.proofs.Begun.{first_still}
+use Rattle.cat_store.proofs.Unstored.{put_stitch_still, refresh_still, take_still}
 use Rattle.cat_tables.specs.Stored.{Stored, stored, texts_of}
 use Rattle.cat_transcript.specs.Program.{program_settings, ruled_after, ruled_reply}
 use Rattle.cat_transcript.specs.Session.{after_finish, after_place, after_reading, after_result, line_fault, order_numbered, reply_to, reply_to_result, session_after, session_reply, with_stitch}
 use Rattle.cat_transcript.specs.declared.state.RuledSession.{RuledSession}
 use Rattle.cat_transcript.specs.declared.state.SessionState.{SessionState}
-use Rattle.cat_session.specs.cat_replies.specs.Events.{cut_by_keeper}
+use Rattle.cat_replies.specs.Events.{cut_by_keeper}
 use Rattle.cat_kept.specs.Carried.{CarriesKept, IsCut, IsRefused}
 use Rattle.cat_kept.specs.Kept.{changes, is_settle, is_single, kept_after, kept_reply, may_be_cut, may_be_refused, one_refused, refused_keeper, settle_events}
 use Rattle.cat_kept.specs.declared.state.KeptState.{KeptState}

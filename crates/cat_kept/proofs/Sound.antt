@@ -1,10 +1,10 @@
 -- A kept session stays sound.
 use Rattle.std.proofs.Common.{ℕ, Bool, true, false, if◌then◌else◌, List, [], ◌∷◌}
-use Rattle.cat_laws.proofs.Stands.{settle_keeps}
-use Rattle.cat_laws.proofs.Steps.{step_kept}
-use Rattle.cat_loop.proofs.Keeping.{Keeps, after_lines-keeps}
-use Rattle.cat_loop.specs.Runs.{after_lines}
-use Rattle.cat_loop.specs.Word.{Word, plain, memory, cut, unkept, cut_unkept}
+use Rattle.cat_model.proofs.Stands.{settle_keeps}
+use Rattle.cat_model.proofs.Steps.{step_kept}
+use Rattle.cat_io.proofs.Keeping.{Keeps, after_lines-keeps}
+use Rattle.cat_io.specs.Runs.{after_lines}
+use Rattle.cat_io.specs.Word.{Word, plain, memory, cut, unkept, cut_unkept}
 use Rattle.cat_model.specs.Catalogue.{Rules}
 use Rattle.cat_model.specs.Sound.{Sound}
 use Rattle.cat_model.specs.declared.types.Settings.{Settings}

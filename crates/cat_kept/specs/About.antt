@@ -8,8 +8,8 @@ use Rattle.cat_commands.specs.declared.line.Line.TheVariants as asks
 use Rattle.cat_model.specs.Catalogue.{Ref}
 use Rattle.cat_model.specs.Given.{given}
 use Rattle.cat_model.specs.declared.types.State.{State}
-use Rattle.cat_reach.specs.Reach.{given_refs, own_refs, reached}
-use Rattle.cat_kept_desk.specs.cat_store.specs.cat_renewed.specs.declared.reached.Reached.{Reached}
+use Rattle.cat_reached.specs.Reach.{given_refs, own_refs, reached}
+use Rattle.cat_renewed.specs.declared.reached.Reached.{Reached}
 use Rattle.cat_table.specs.Table.{Text}
 use Rattle.cat_transcript.specs.Session.{order_numbered}
 use Rattle.cat_transcript.specs.declared.state.SessionState.{SessionState}

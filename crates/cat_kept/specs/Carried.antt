@@ -2,10 +2,10 @@
 use Rattle.std.specs.Prelude.{◌≡◌, ◌⊎◌, true, List, ℕ}
 use Rattle.cat_commands.specs.declared.line.Line.{Line}
 use Rattle.cat_commands.specs.declared.line.Line.TheVariants as asks
-use Rattle.cat_loop.specs.Word.{cut}
+use Rattle.cat_io.specs.Word.{cut}
 use Rattle.cat_model.specs.Catalogue.{Rules}
 use Rattle.cat_session.specs.Carried.{Carries}
-use Rattle.cat_session.specs.cat_replies.specs.Events.{cut_by_keeper}
+use Rattle.cat_replies.specs.Events.{cut_by_keeper}
 use Rattle.cat_transcript.specs.Program.{program_settings}
 use Rattle.cat_transcript.specs.Session.{after_reading}
 use Rattle.cat_transcript.specs.declared.state.RuledSession.{RuledSession}

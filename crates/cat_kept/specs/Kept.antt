@@ -7,9 +7,9 @@ use Rattle.cat_commands.specs.declared.fault.LineFault.{LineFault}
 use Rattle.cat_commands.specs.declared.line.Line.{Line}
 use Rattle.cat_commands.specs.declared.line.Line.TheVariants as asks
 use Rattle.cat_kept_desk.specs.Followed.{one_more}
-use Rattle.cat_loop.specs.Word.{Word, plain, memory, cut, unkept, cut_unkept, After, Reply}
+use Rattle.cat_io.specs.Word.{Word, plain, memory, cut, unkept, cut_unkept, After, Reply}
 use Rattle.cat_model.specs.Catalogue.{Rules}
-use Rattle.cat_session.specs.cat_replies.specs.Events.{cut_by_keeper}
+use Rattle.cat_replies.specs.Events.{cut_by_keeper}
 use Rattle.cat_transcript.specs.Program.{program_settings, ruled_after, ruled_reply}
 use Rattle.cat_transcript.specs.Session.{settled}
 use Rattle.cat_transcript.specs.declared.state.RuledSession.{RuledSession}

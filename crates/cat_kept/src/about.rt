@@ -5,16 +5,16 @@ ghost use Rattle.cat_kept.specs.About.{IsAbout, IsFound, entity_about};
 ghost use Rattle.cat_model.specs.declared.types.State.{State};
 
 use cat_commands::line::Line;
+use cat_core::catalogue::Saved;
 use cat_hold::layers::Layers;
-use cat_kept_desk::cat_reached::reached::{reached_from, refs_of};
-use cat_kept_desk::cat_reached::seeds::mutation_seeds;
-use cat_kept_desk::cat_store::cat_renewed::reached::Reached;
 use cat_model::types::State;
-use cat_ref::reference::Ref;
+use cat_reached::reached::{reached_from, refs_of};
+use cat_reached::seeds::mutation_seeds;
+use cat_renewed::reached::Reached;
 use cat_session::Session;
-use cat_session::cat_desk::cat_core::catalogue::Saved;
 use cat_table::listing::{Copied, Listing};
 use cat_tree::text::Text;
+use cat_types::reference::Ref;
 use std::alloc::{AllocError, Global};
 
 /// What a line is about, as it is known before the line is carried out.

@@ -2,8 +2,8 @@
 ghost use Rattle.std.specs.Prelude.{List, ℕ};
 ghost use Rattle.cat_kept.specs.Kept.{kept_after};
 ghost use Rattle.cat_kept.specs.declared.state.KeptState.{KeptState};
-ghost use Rattle.cat_loop.specs.Runs.{after_lines};
-ghost use Rattle.cat_loop.specs.Word.{Word};
+ghost use Rattle.cat_io.specs.Runs.{after_lines};
+ghost use Rattle.cat_io.specs.Word.{Word};
 ghost use Rattle.cat_model.specs.Catalogue.{Rules};
 ghost use Rattle.cat_model.specs.Fresh.{IsFresh};
 ghost use Rattle.cat_model.specs.Sound.{Quiet, Sound};

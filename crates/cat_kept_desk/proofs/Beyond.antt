@@ -2,12 +2,12 @@
 use Rattle.std.proofs.Common.{◌≡◌, ℕ, false, List, [], refl, sym, ap, subst, ◌∙◌}
 use Rattle.std.specs.declared.option.Option.{Option}
 use Rattle.std.specs.declared.option.Option.TheVariants.{None, Some}
-use Rattle.cat_spare.specs.cat_desk.specs.cat_core.specs.declared.ledger.Ledger.{Ledger}
-use Rattle.cat_spare.specs.cat_desk.specs.Acts.{Acts, after_deed, done}
-use Rattle.cat_spare.specs.cat_desk.specs.Deed.{Deed}
-use Rattle.cat_spare.specs.cat_desk.specs.Deed.Deed.{Mutate, ShelfPut, ShelfDrop, Refresh, Forget, ForgetNumber, Take, Finish, TakeStitch, PutStitch, Settle}
-use Rattle.cat_spare.specs.cat_desk.specs.declared.command.Reply.{Reply}
-use Rattle.cat_loop.specs.Word.{Word, plain, memory, cut, unkept, cut_unkept}
+use Rattle.cat_core.specs.declared.ledger.Ledger.{Ledger}
+use Rattle.cat_desk.specs.Acts.{Acts, after_deed, done}
+use Rattle.cat_desk.specs.Deed.{Deed}
+use Rattle.cat_desk.specs.Deed.Deed.{Mutate, ShelfPut, ShelfDrop, Refresh, Forget, ForgetNumber, Take, Finish, TakeStitch, PutStitch, Settle}
+use Rattle.cat_desk.specs.declared.command.Reply.{Reply}
+use Rattle.cat_io.specs.Word.{Word, plain, memory, cut, unkept, cut_unkept}
 use Rattle.cat_model.specs.Catalogue.{Ref, Rules}
 use Rattle.cat_model.specs.Settle.{try_settle}
 use Rattle.cat_model.specs.Sound.{Sound}
@@ -15,17 +15,17 @@ use Rattle.cat_model.specs.Step.{ref_at, step}
 use Rattle.cat_model.specs.Step.Event.{Mutate as Mutated, ShelfPut as PutOnShelf, ShelfDrop as DroppedFromShelf, Refresh as Refreshed, Forget as Forgotten, ForgetNumber as NumberForgotten, Take as Taken, Finish as Finished, PutStitch as StitchPut}
 use Rattle.cat_model.specs.declared.types.Settings.{Settings}
 use Rattle.cat_model.specs.declared.types.State.{State}
-use Rattle.cat_reached.specs.cat_reach.proofs.Inputs.{drop_inputs, inputs_stay, put_inputs}
-use Rattle.cat_reached.specs.cat_reach.proofs.Mutated.{mutate_inputs, mutate_reaches}
-use Rattle.cat_reached.specs.cat_reach.proofs.Nothing.{put_stitch_reaches, refresh_reaches, shelf_drop_reaches, shelf_put_reaches, take_reaches}
-use Rattle.cat_reached.specs.cat_reach.proofs.Own.{finish_reaches, forget_number_reaches, forget_reaches, no_number}
-use Rattle.cat_reached.specs.cat_reach.proofs.Stepped.{unchanged}
-use Rattle.cat_reached.specs.cat_reach.specs.Gathered.{IsWithin}
-use Rattle.cat_reached.specs.cat_reach.specs.Reach.{AreSameBeyond, AreSameInputs, AreSameProvidersBut, AreSameTextsBut}
-use Rattle.cat_store.specs.cat_renewed.specs.Renewed.{IsBeyond, is_it}
-use Rattle.cat_store.specs.cat_renewed.specs.declared.reached.Reached.{Reached}
+use Rattle.cat_reached.proofs.Inputs.{drop_inputs, inputs_stay, put_inputs}
+use Rattle.cat_reached.proofs.Mutated.{mutate_inputs, mutate_reaches}
+use Rattle.cat_reached.proofs.Nothing.{put_stitch_reaches, refresh_reaches, shelf_drop_reaches, shelf_put_reaches, take_reaches}
+use Rattle.cat_reached.proofs.Own.{finish_reaches, forget_number_reaches, forget_reaches, no_number}
+use Rattle.cat_reached.proofs.Stepped.{unchanged}
+use Rattle.cat_reached.specs.Gathered.{IsWithin}
+use Rattle.cat_reached.specs.Reach.{AreSameBeyond, AreSameInputs, AreSameProvidersBut, AreSameTextsBut}
+use Rattle.cat_renewed.specs.Renewed.{IsBeyond, is_it}
+use Rattle.cat_renewed.specs.declared.reached.Reached.{Reached}
 use Rattle.cat_table.specs.Table.{Text, get}
-use Rattle.cat_store.specs.cat_tables.proofs.In.{same_some}
+use Rattle.cat_tables.proofs.In.{same_some}
 use Rattle.cat_kept_desk.specs.Reached.{IsReached, provider_reached, refs_from, refs_reached, text_reached}
 
 -- what holds beyond these references and of inputs, as what was reached has it

@@ -4,10 +4,10 @@ use Rattle.std.proofs.lemmas.Bool.Decides.{nat_tests}
 use Rattle.std.specs.declared.option.Option.{Option}
 use Rattle.std.specs.declared.option.Option.TheVariants.{None, Some}
 use Rattle.std.specs.FinMap.Entries.{is_sorted}
-use Rattle.cat_spare.specs.cat_desk.specs.Acts.{NeedsNone, after_deed, done}
-use Rattle.cat_spare.specs.cat_desk.specs.Deed.{Deed}
-use Rattle.cat_spare.specs.cat_desk.specs.Deed.Deed.{Mutate, ShelfPut, ShelfDrop, Refresh, Forget, ForgetNumber, Take, Finish, TakeStitch, PutStitch, Settle}
-use Rattle.cat_loop.specs.Word.{Word, plain, memory, cut, unkept, cut_unkept}
+use Rattle.cat_desk.specs.Acts.{NeedsNone, after_deed, done}
+use Rattle.cat_desk.specs.Deed.{Deed}
+use Rattle.cat_desk.specs.Deed.Deed.{Mutate, ShelfPut, ShelfDrop, Refresh, Forget, ForgetNumber, Take, Finish, TakeStitch, PutStitch, Settle}
+use Rattle.cat_io.specs.Word.{Word, plain, memory, cut, unkept, cut_unkept}
 use Rattle.cat_model.specs.Catalogue.{Ref, Rules}
 use Rattle.cat_model.specs.Sound.{its_number, number_in}
 use Rattle.cat_model.specs.Step.{forget_at, ref_at, source_at}
@@ -19,7 +19,7 @@ use Rattle.cat_model.specs.declared.types.Settings.{Settings}
 use Rattle.cat_model.specs.declared.types.State.{State}
 use Rattle.cat_store.proofs.Unstored.{put_stitch_still, refresh_still, step_still, take_still}
 use Rattle.cat_table.specs.Table.{get, text_cmp}
-use Rattle.cat_store.specs.cat_tables.specs.Stored.{stored}
+use Rattle.cat_tables.specs.Stored.{stored}
 use Rattle.cat_kept_desk.specs.Deeds.{leaves_rows}
 
 some_not : {A : Type 0} (v : Option A) → is_none v ≡ true → is_some v ≡ false

@@ -6,7 +6,7 @@ use Rattle.cat_keeper.specs.Answers.{Are}
 use Rattle.cat_keeper.specs.Store.{Rows}
 use Rattle.cat_model.specs.declared.types.OrphanRule.{OrphanRule}
 use Rattle.cat_model.specs.declared.types.State.{State}
-use Rattle.cat_store.specs.cat_tables.specs.Stored.{Stored, stored, texts_of}
+use Rattle.cat_tables.specs.Stored.{Stored, stored, texts_of}
 use Rattle.cat_kept_desk.specs.Followed.{IsFollowed}
 
 pub followed : (told told' : Option Rows) (o o' : OrphanRule) (rows rows' : Stored) (rule rule' : OrphanRule) (m m' : State) → o' ≡ o → rule ≡ rule' → (Are told (texts_of rows) → Are told' (texts_of rows'))

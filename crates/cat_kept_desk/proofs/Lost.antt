@@ -2,14 +2,14 @@
 use Rattle.std.proofs.Common.{◌≡◌, ◌≤◌, ◌+◌, ◌-◌, ◌^◌, ℕ, min, refl, sym, ap, subst, ◌∙◌, inl, inr, arith}
 use Rattle.std.specs.declared.option.Option.TheVariants.{Some}
 use Rattle.cat_io.specs.Causes.{Rose}
-use Rattle.cat_loop.specs.Word.{memory}
-use Rattle.cat_spare.specs.cat_desk.specs.cat_core.specs.declared.fault.CoreFault.TheVariants.{Keeper, NoMemory}
-use Rattle.cat_spare.specs.cat_desk.specs.cat_core.specs.declared.ledger.Ledger.{Ledger}
-use Rattle.cat_spare.specs.cat_desk.specs.Acts.{Acts}
-use Rattle.cat_spare.specs.cat_desk.specs.Deed.{Deed}
-use Rattle.cat_spare.specs.cat_desk.specs.Deed.Deed.{Settle}
-use Rattle.cat_spare.specs.cat_desk.specs.declared.command.Reply.{Reply}
-use Rattle.cat_spare.specs.cat_desk.specs.declared.command.Reply.TheVariants.{Cut, Refused}
+use Rattle.cat_io.specs.Word.{memory}
+use Rattle.cat_core.specs.declared.fault.CoreFault.TheVariants.{Keeper, NoMemory}
+use Rattle.cat_core.specs.declared.ledger.Ledger.{Ledger}
+use Rattle.cat_desk.specs.Acts.{Acts}
+use Rattle.cat_desk.specs.Deed.{Deed}
+use Rattle.cat_desk.specs.Deed.Deed.{Settle}
+use Rattle.cat_desk.specs.declared.command.Reply.{Reply}
+use Rattle.cat_desk.specs.declared.command.Reply.TheVariants.{Cut, Refused}
 use Rattle.cat_model.specs.Catalogue.{Rules}
 use Rattle.cat_model.specs.Settle.{try_settle}
 use Rattle.cat_kept_desk.specs.Deeds.{IsCutUnkept, KeptActs}

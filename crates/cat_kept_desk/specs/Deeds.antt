@@ -1,14 +1,14 @@
 -- Deeds of a catalogue that is kept, and those that leave its stored rows as they are.
 use Rattle.std.specs.Prelude.{◌≡◌, ◌⊎◌, ℕ, Bool, true, false, nat_le, is_none}
 use Rattle.std.specs.declared.option.Option.TheVariants.{Some}
-use Rattle.cat_spare.specs.cat_desk.specs.cat_core.specs.declared.fault.CoreFault.{CoreFault}
-use Rattle.cat_spare.specs.cat_desk.specs.cat_core.specs.declared.fault.CoreFault.TheVariants.{Keeper}
-use Rattle.cat_spare.specs.cat_desk.specs.cat_core.specs.declared.ledger.Ledger.{Ledger}
-use Rattle.cat_spare.specs.cat_desk.specs.Acts.{Acts}
-use Rattle.cat_spare.specs.cat_desk.specs.Deed.{Deed}
-use Rattle.cat_spare.specs.cat_desk.specs.Deed.Deed.{Mutate, ShelfPut, ShelfDrop, Refresh, Forget, ForgetNumber, Take, Finish, TakeStitch, PutStitch, Settle}
-use Rattle.cat_spare.specs.cat_desk.specs.declared.command.Reply.{Reply}
-use Rattle.cat_spare.specs.cat_desk.specs.declared.command.Reply.TheVariants.{Cut, Refused}
+use Rattle.cat_core.specs.declared.fault.CoreFault.{CoreFault}
+use Rattle.cat_core.specs.declared.fault.CoreFault.TheVariants.{Keeper}
+use Rattle.cat_core.specs.declared.ledger.Ledger.{Ledger}
+use Rattle.cat_desk.specs.Acts.{Acts}
+use Rattle.cat_desk.specs.Deed.{Deed}
+use Rattle.cat_desk.specs.Deed.Deed.{Mutate, ShelfPut, ShelfDrop, Refresh, Forget, ForgetNumber, Take, Finish, TakeStitch, PutStitch, Settle}
+use Rattle.cat_desk.specs.declared.command.Reply.{Reply}
+use Rattle.cat_desk.specs.declared.command.Reply.TheVariants.{Cut, Refused}
 use Rattle.cat_model.specs.Catalogue.{Rules}
 use Rattle.cat_model.specs.Settle.{try_settle}
 use Rattle.cat_model.specs.Sound.{its_number}

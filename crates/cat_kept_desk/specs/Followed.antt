@@ -4,7 +4,7 @@ use Rattle.cat_keeper.specs.Answers.{Are}
 use Rattle.cat_keeper.specs.Store.{Rows}
 use Rattle.cat_model.specs.declared.types.OrphanRule.{OrphanRule}
 use Rattle.cat_model.specs.declared.types.State.{State}
-use Rattle.cat_store.specs.cat_tables.specs.Stored.{Stored, stored, texts_of}
+use Rattle.cat_tables.specs.Stored.{Stored, stored, texts_of}
 
 -- a count of one more, which stays at the last value of a u64
 abbrev pub one_more : ℕ → ℕ

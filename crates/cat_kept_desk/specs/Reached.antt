@@ -2,13 +2,13 @@
 use Rattle.std.specs.Prelude.{◌≡◌, List, []}
 use Rattle.std.specs.declared.option.Option.{Option}
 use Rattle.std.specs.declared.option.Option.TheVariants.{None, Some}
-use Rattle.cat_spare.specs.cat_desk.specs.Deed.{Deed}
-use Rattle.cat_spare.specs.cat_desk.specs.Deed.Deed.{Mutate, ShelfPut, ShelfDrop, Forget, ForgetNumber, Finish, Settle}
+use Rattle.cat_desk.specs.Deed.{Deed}
+use Rattle.cat_desk.specs.Deed.Deed.{Mutate, ShelfPut, ShelfDrop, Forget, ForgetNumber, Finish, Settle}
 use Rattle.cat_model.specs.Catalogue.{Ref}
 use Rattle.cat_model.specs.Step.{ref_at}
 use Rattle.cat_model.specs.declared.types.State.{State}
-use Rattle.cat_reached.specs.cat_reach.specs.Reach.{given_refs, own_refs, reached}
-use Rattle.cat_store.specs.cat_renewed.specs.declared.reached.Reached.{Reached}
+use Rattle.cat_reached.specs.Reach.{given_refs, own_refs, reached}
+use Rattle.cat_renewed.specs.declared.reached.Reached.{Reached}
 use Rattle.cat_table.specs.Table.{Text}
 
 -- what was reached from a reference, if there is one

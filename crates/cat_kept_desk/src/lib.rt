@@ -7,10 +7,10 @@
 //! or it was much, all rows are made and compared. What leaves the stored rows as they are asks nothing of the keeper.
 //!
 //! The catalogue is put back to a copy from before the command. The desk keeps a spare one, to which each command is done that was done to the
-//! catalogue (cat_spare), so that records aren't copied for each. There is none at first, and after a settle of more than 64 leases or one that was cut, a
+//! catalogue (cat_desk), so that records aren't copied for each. There is none at first, and after a settle of more than 64 leases or one that was cut, a
 //! mutation of more than 64 items, and a command that wasn't kept or lacked memory: then the next command that may change the stored rows makes one.
 //!
-//! It stands on cat_desk for what a command does, on cat_fed for the feed, and on cat_store for the store. It carries the promise that between two
+//! It stands on cat_desk for what a command does and for the feed, and on cat_store for the store. It carries the promise that between two
 //! commands a keeper that tells its tables holds those of the catalogue's state, that the keeper's fault is answered only where it counted one, and
 //! that a spare copy is what the catalogue holds.
 #![tactic(auto)]
@@ -19,8 +19,3 @@ pub mod desk;
 mod reaching;
 
 pub use desk::KeptDesk;
-
-// What this crate stands on and hands on.
-pub use cat_fed;
-pub use cat_reached;
-pub use cat_store;

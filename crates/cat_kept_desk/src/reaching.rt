@@ -1,19 +1,19 @@
 //! What a command reached of what is stored.
 ghost use Rattle.std.specs.Prelude.{◌≡◌, IfOk, option_map};
 ghost use Rattle.std.specs.declared.option.Option.TheVariants.{None};
-ghost use Rattle.cat_spare.specs.cat_desk.specs.Deed.{deed_of};
-ghost use Rattle.cat_spare.specs.cat_desk.specs.Deed.Deed.{Settle};
+ghost use Rattle.cat_desk.specs.Deed.{deed_of};
+ghost use Rattle.cat_desk.specs.Deed.Deed.{Settle};
 ghost use Rattle.cat_model.specs.declared.types.State.{State};
 ghost use Rattle.cat_kept_desk.specs.Reached.{IsFound, refs_from};
 
+use cat_core::catalogue::{Done, Saved, Stitched};
+use cat_desk::command::Command;
 use cat_hold::layers::Layers;
 use cat_model::types::State;
 use cat_reached::reached::{mutated_refs, refs_of};
-use cat_ref::reference::Ref;
-use cat_spare::cat_desk::cat_core::catalogue::{Done, Saved, Stitched};
-use cat_spare::cat_desk::command::Command;
-use cat_store::cat_renewed::reached::Reached;
+use cat_renewed::reached::Reached;
 use cat_table::listing::{Copied, Listing};
+use cat_types::reference::Ref;
 use std::alloc::{AllocError, Global};
 
 // What was reached from a reference, if there is one; no inputs were.

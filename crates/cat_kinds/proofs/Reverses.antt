@@ -8,8 +8,8 @@ use Rattle.std.specs.Option.{option_map_or}
 use Rattle.std.proofs.lemmas.List.Folds.{list_any-append}
 use Rattle.cat_tree.specs.Data.{Data, null, flag, whole, words, list, dict, Items, no_items, item}
 use Rattle.cat_tree.specs.Ask.{child_of}
-use Rattle.cat_ref.specs.Reference.{text_in}
-use Rattle.cat_ref.specs.declared.fault.RefFault.{RefFault}
+use Rattle.cat_types.specs.Reference.{text_in}
+use Rattle.cat_types.specs.declared.fault.RefFault.{RefFault}
 use Rattle.cat_table.specs.Table.{Text}
 use Rattle.cat_types.specs.declared.relation.Relation.{Relation}
 use Rattle.cat_types.specs.declared.relation.RelKind.{RelKind}

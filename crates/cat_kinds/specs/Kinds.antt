@@ -3,8 +3,8 @@ use Rattle.std.specs.Prelude.{ℕ, List, [], ◌∷◌, ◌++◌, Option, Some, 
 use Rattle.std.specs.Fmt.{decimal}
 use Rattle.cat_tree.specs.Data.{Data}
 use Rattle.cat_tree.specs.Ask.{child_of}
-use Rattle.cat_ref.specs.Reference.{text_at, parsed}
-use Rattle.cat_ref.specs.declared.fault.RefFault.{RefFault}
+use Rattle.cat_types.specs.Reference.{text_at, parsed}
+use Rattle.cat_types.specs.declared.fault.RefFault.{RefFault}
 use Rattle.cat_table.specs.Table.{Text, keys, tabulate}
 use Rattle.cat_types.specs.Relation.{relation_cmp}
 use Rattle.cat_types.specs.declared.relation.Relation.{Relation}

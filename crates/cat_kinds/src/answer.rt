@@ -5,12 +5,12 @@ ghost use Rattle.cat_kinds.specs.Mentions.{mention_of};
 ghost use Rattle.cat_kinds.specs.Kinds as spec;
 
 use crate::mention::{Mention, mentions};
-use cat_ref::fault::RefFault;
-use cat_ref::reference::{Ref, parse, text_at};
 use cat_table::listing::Listing;
 use cat_tree::ask::grandchild;
 use cat_tree::text::Text;
 use cat_tree::tree::Tree;
+use cat_types::fault::RefFault;
+use cat_types::reference::{Ref, parse, text_at};
 use cat_types::relation::{RelKind, Relation};
 use cat_types::sorted::in_order;
 use std::alloc::{AllocError, Global};

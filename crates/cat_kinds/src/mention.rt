@@ -5,12 +5,12 @@ ghost use Rattle.cat_tree.specs.View.{data_of};
 ghost use Rattle.cat_schema.specs.Fields.{row_of};
 ghost use Rattle.cat_kinds.specs.Mentions as spec;
 
-use cat_ref::reference::text_in;
 use cat_schema::field::{RefField, fields, has_field};
 use cat_schema::kind::Kind;
 use cat_schema::rules::kind_of;
 use cat_tree::ask::grandchild;
 use cat_tree::tree::Tree;
+use cat_types::reference::text_in;
 use std::alloc::{AllocError, Global};
 
 /// A text in a reference field, with its position from 0 where the field is a list.

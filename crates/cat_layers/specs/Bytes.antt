@@ -2,7 +2,7 @@
 use Rattle.std.specs.Prelude.{ℕ, ◌+◌, ◌^◌, length, min}
 use Rattle.std.specs.List.{sum_by}
 use Rattle.cat_table.specs.Table.{Text, Map}
-use Rattle.cat_items.specs.Bytes.{item_bytes}
+use Rattle.cat_values.specs.Bytes.{item_bytes}
 use Rattle.cat_model.specs.declared.types.ProviderInputs.{ProviderInputs}
 
 -- the lengths of the compact texts of a provider's items

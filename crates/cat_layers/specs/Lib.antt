@@ -1,2 +1,4 @@
 pub mod Bytes
 pub mod Layered
+pub mod Trees
+pub mod Forms

@@ -7,7 +7,7 @@ ghost use Rattle.cat_links.specs.Counts as spec;
 
 use cat_table::listing::Copied;
 use cat_table::map::Map;
-use cat_types::cat_ref::reference::Ref;
+use cat_types::reference::Ref;
 use cat_types::relation::Relation;
 use std::alloc::{AllocError, Global};
 

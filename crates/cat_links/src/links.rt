@@ -13,7 +13,7 @@ use crate::counts::{Counts, SourceCounts, gain, is_counted, lose};
 use crate::moved::difference;
 use cat_table::listing::{Copied, Listing};
 use cat_table::map::Map;
-use cat_types::cat_ref::reference::Ref;
+use cat_types::reference::Ref;
 use cat_types::relation::Relation;
 use cat_types::sorted::{append, in_order};
 use std::alloc::{AllocError, Global};

@@ -13,8 +13,8 @@ use Rattle.cat_table.specs.Places.{before}
 use Rattle.cat_table.specs.Rows.{without}
 use Rattle.cat_table.specs.Table.{Map, Text, find, get, text_cmp}
 use Rattle.cat_table.proofs.Tables.{and_first, and_second, same_is, same_self, text_antisymmetric, text_total}
-use Rattle.cat_marks.proofs.Indexed.{ticket_antisymmetric, ticket_total}
-use Rattle.cat_marks.proofs.Least.{below_found, equally_low, lower, lt_from, lt_true, not_higher, two_numbers}
+use Rattle.cat_values.proofs.Indexed.{ticket_antisymmetric, ticket_total}
+use Rattle.cat_values.proofs.Least.{below_found, equally_low, lower, lt_from, lt_true, not_higher, two_numbers}
 use Rattle.cat_model.specs.Dues.{AreMoments, Moments, due_of, is_due, is_leased, is_live, lapse, lapse_of, moment_cmp, refs_until}
 use Rattle.cat_model.specs.declared.types.Lease.{Lease}
 use Rattle.cat_model.specs.declared.types.Record.{Record}

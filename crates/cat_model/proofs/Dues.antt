@@ -9,7 +9,7 @@ use Rattle.std.specs.FinMap.Entries.{find-put, is_sorted, is_sorted-put, is_sort
 use Rattle.cat_table.specs.Rows.{without}
 use Rattle.cat_table.specs.Table.{Map, Text, find, get, put, same_text, text_cmp}
 use Rattle.cat_table.proofs.Tables.{same_is, same_self, text_antisymmetric, text_total}
-use Rattle.cat_marks.proofs.Indexed.{find-without, same_ticket, ticket_antisymmetric, ticket_total, turned_number}
+use Rattle.cat_values.proofs.Indexed.{find-without, same_ticket, ticket_antisymmetric, ticket_total, turned_number}
 use Rattle.cat_model.specs.Dues.{AreMoments, Moments, is_at, moment_cmp, rerecorded_at}
 use Rattle.cat_model.specs.declared.types.Lease.{Lease}
 use Rattle.cat_model.specs.declared.types.Record.{Record}

@@ -5,17 +5,17 @@ use Rattle.std.specs.declared.option.Option.TheVariants.{None, Some}
 use Rattle.std.specs.Option.{option_and_then, option_map}
 use Rattle.std.specs.Ordering.{nat_cmp}
 use Rattle.std.specs.List.{filter, filter_map, flat_map, list_any}
-use Rattle.cat_target.specs.cat_tree.specs.Data.{Data}
-pub use Rattle.cat_index.specs.cat_types.specs.declared.issue.Issue.{Issue}
-pub use Rattle.cat_index.specs.cat_types.specs.declared.relation.Relation.{Relation}
-pub use Rattle.cat_index.specs.cat_types.specs.declared.input.Offered.{Offered}
-pub use Rattle.cat_index.specs.cat_types.specs.declared.work.Output.{Output}
-pub use Rattle.cat_index.specs.cat_types.specs.declared.work.Outcome.{Outcome}
-pub use Rattle.cat_index.specs.cat_types.specs.declared.parts.Parts.{Parts}
+use Rattle.cat_tree.specs.Data.{Data}
+pub use Rattle.cat_types.specs.declared.issue.Issue.{Issue}
+pub use Rattle.cat_types.specs.declared.relation.Relation.{Relation}
+pub use Rattle.cat_types.specs.declared.input.Offered.{Offered}
+pub use Rattle.cat_types.specs.declared.work.Output.{Output}
+pub use Rattle.cat_types.specs.declared.work.Outcome.{Outcome}
+pub use Rattle.cat_types.specs.declared.parts.Parts.{Parts}
 pub use Rattle.cat_model.specs.declared.types.ProviderInputs.{ProviderInputs}
-pub use Rattle.cat_index.specs.cat_types.specs.declared.work.Content.{Content}
-pub use Rattle.cat_index.specs.cat_types.specs.declared.work.Work.{Work}
-use Rattle.cat_index.specs.cat_types.specs.Relation.{relation_cmp}
+pub use Rattle.cat_types.specs.declared.work.Content.{Content}
+pub use Rattle.cat_types.specs.declared.work.Work.{Work}
+use Rattle.cat_types.specs.Relation.{relation_cmp}
 use Rattle.cat_target.specs.Targets.{read_names}
 pub use Rattle.cat_model.specs.declared.types.Origin.{Origin}
 pub use Rattle.cat_model.specs.declared.types.Row.{Row}
@@ -27,7 +27,7 @@ pub use Rattle.cat_model.specs.declared.types.State.{State}
 pub use Rattle.cat_model.specs.declared.types.Leaving.{Leaving}
 use Rattle.cat_model.specs.declared.types.Leaving.TheVariants.{Deleted, Orphaned}
 use Rattle.cat_model.specs.declared.types.Origin.TheVariants.{Provider, Entity}
-use Rattle.cat_index.specs.cat_types.specs.declared.work.Outcome.TheVariants.{Good}
+use Rattle.cat_types.specs.declared.work.Outcome.TheVariants.{Good}
 use Rattle.cat_table.specs.Table.{Text, text_cmp, same_text, Map, get, keys, put, tabulate, over, first, place}
 
 -- ---- what the lower layers give

@@ -2,9 +2,9 @@
 use Rattle.std.specs.Prelude.{codes, true, false, List, [], ◌++◌, map}
 use Rattle.std.specs.declared.option.Option.{Option}
 use Rattle.std.specs.declared.option.Option.TheVariants.{None, Some}
-pub use Rattle.cat_index.specs.cat_types.specs.declared.input.Item.{Item}
-pub use Rattle.cat_index.specs.cat_types.specs.declared.input.Mutation.{Mutation}
-use Rattle.cat_index.specs.cat_types.specs.declared.input.Mutation.TheVariants.{Full, Delta}
+pub use Rattle.cat_types.specs.declared.input.Item.{Item}
+pub use Rattle.cat_types.specs.declared.input.Mutation.{Mutation}
+use Rattle.cat_types.specs.declared.input.Mutation.TheVariants.{Full, Delta}
 use Rattle.cat_table.specs.Table.{Text}
 use Rattle.cat_model.specs.Catalogue.{Ref, Offered, Offers}
 pub use Rattle.cat_model.specs.declared.types.Given.{Given}

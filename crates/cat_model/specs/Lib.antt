@@ -8,6 +8,4 @@ pub mod Formed
 pub mod Settle
 pub mod Reply
 pub mod Fresh
-pub use Rattle.cat_index
-pub use Rattle.cat_items
-pub use Rattle.cat_marks
+pub mod Mend

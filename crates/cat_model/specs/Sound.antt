@@ -7,7 +7,7 @@ use Rattle.std.specs.Ordering.{nat_cmp}
 use Rattle.std.specs.FinMap.Entries.{is_sorted}
 use Rattle.cat_table.specs.Table.{get, text_cmp, over}
 use Rattle.cat_model.specs.Catalogue.{Ref, Tree, Offered, Outcome, Parts, Work, Rules, Origin, Row, Rows, Holders, Record, State, held, row_at, rooted, work, output_of, parts, Orphan}
-use Rattle.cat_index.specs.cat_types.specs.declared.work.Outcome.TheVariants.{Good, Bad}
+use Rattle.cat_types.specs.declared.work.Outcome.TheVariants.{Good, Bad}
 use Rattle.cat_model.specs.declared.types.Origin.TheVariants.{Provider, Entity}
 
 -- what an origin offers for r: a provider's item, or an offer of a kept output

@@ -18,7 +18,7 @@ use Rattle.cat_model.specs.declared.types.Counter.TheVariants.{Arrival, Number, 
 use Rattle.cat_table.specs.Table.{Text, text_cmp, same_text, Map, get, keys, put, over, first, tabulate}
 pub use Rattle.cat_model.specs.Rows.{same_origin}
 use Rattle.cat_model.specs.Catalogue.{Ref, Offered, Offers, Outcome, Rules, Origin, Row, Rows, ProviderInputs, Lease, Record, State, row_at, work, parts, same_option, known_refs, frame, Orphan, due_now}
-use Rattle.cat_index.specs.cat_types.specs.declared.work.Outcome.TheVariants.{Good, Bad}
+use Rattle.cat_types.specs.declared.work.Outcome.TheVariants.{Good, Bad}
 use Rattle.cat_model.specs.declared.types.Origin.TheVariants.{Provider, Entity}
 use Rattle.cat_model.specs.declared.types.Leaving.{Leaving}
 use Rattle.cat_model.specs.declared.types.Leaving.TheVariants.{Deleted, Orphaned}

@@ -5,19 +5,19 @@ ghost use Rattle.std.specs.List.{filter};
 ghost use Rattle.cat_owned.specs.BoxedLeft.{boxed_left};
 ghost use Rattle.cat_table.specs.Rows.{without};
 ghost use Rattle.cat_table.specs.Table.{find, get, keys, put, text_cmp};
-ghost use Rattle.cat_index.specs.cat_types.specs.Amended.{amended};
+ghost use Rattle.cat_types.specs.Amended.{amended};
 ghost use Rattle.cat_model.specs.Dues.{first_taken, is_due, is_free, is_leased, lapse, may_take, moment_cmp, refs_due, refs_until, rerecorded_at, soonest};
 ghost use Rattle.std.specs.declared.option.Option.TheVariants.{Some};
 
 use crate::types::{Lease, Record};
-use cat_index::cat_types::sorted::in_order;
-use cat_marks::marks::Above;
 use cat_owned::boxed::{BoxedItems, Node, Slot};
 use cat_owned::owned::Owned;
 use cat_table::listing::{Copied, Listing};
 use cat_table::pair::Pair;
 use cat_table::tree::MOST;
-use cat_target::cat_ref::reference::Ref;
+use cat_types::reference::Ref;
+use cat_types::sorted::in_order;
+use cat_values::marks::Above;
 use std::alloc::{AllocError, Global};
 use std::marker::Model;
 

@@ -15,9 +15,9 @@ use cat_table::key::Key;
 use cat_table::listing::{Copied, Listing};
 use cat_table::map::Map;
 use cat_table::tree::Items;
-use cat_target::cat_ref::reference::Ref;
-use cat_target::cat_tree::text::Text;
 use cat_target::target::read_names;
+use cat_tree::text::Text;
+use cat_types::reference::Ref;
 use std::alloc::{AllocError, Global};
 use std::marker::Model;
 

@@ -6,9 +6,9 @@ use Rattle.std.specs.List.{list_all, list_any}
 use Rattle.std.specs.Option.{option_and_then}
 use Rattle.cat_tree.specs.Ask.{child_of, depth_of}
 use Rattle.cat_tree.specs.Data.{Data}
-use Rattle.cat_ref.specs.Reference.{described}
-use Rattle.cat_ref.specs.declared.fault.RefFault.{RefFault}
-use Rattle.cat_kinds.specs.cat_schema.specs.Rules.{breaches}
+use Rattle.cat_types.specs.Reference.{described}
+use Rattle.cat_types.specs.declared.fault.RefFault.{RefFault}
+use Rattle.cat_schema.specs.Rules.{breaches}
 use Rattle.cat_kinds.specs.Kinds.{kind_faults}
 use Rattle.cat_table.specs.Table.{Text, keys, same_text}
 use Rattle.cat_types.specs.declared.work.Output.{Output}

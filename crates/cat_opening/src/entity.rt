@@ -2,16 +2,16 @@
 ghost use Rattle.std.specs.Prelude.{◌≡◌, ◌==◌, length, IfOk};
 ghost use Rattle.cat_kinds.specs.Kinds.{kind_faults};
 ghost use Rattle.cat_opening.specs.Forms as spec;
-ghost use Rattle.cat_ref.specs.Reference.{described};
+ghost use Rattle.cat_types.specs.Reference.{described};
 ghost use Rattle.cat_tree.specs.View.{data_of};
 
 use cat_kinds::answer::{KindAnswer, relations};
-use cat_kinds::cat_schema::rules::check;
-use cat_ref::fault::RefFault;
-use cat_ref::reference::{Ref, ref_of};
+use cat_schema::rules::check;
 use cat_tree::ask::{depth, grandchild};
 use cat_tree::tree::Tree;
+use cat_types::fault::RefFault;
 use cat_types::node::Node;
+use cat_types::reference::{Ref, ref_of};
 use std::alloc::{AllocError, Global};
 
 /// How deep the tree of an item or an offer may be.

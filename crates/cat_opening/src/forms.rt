@@ -8,11 +8,11 @@ use crate::entity::{is_entity, may_be_given};
 use cat_model::records::Records;
 use cat_model::rows::IndexedRows;
 use cat_model::types::{Orphan, ProviderInputs, State};
-use cat_ref::reference::Ref;
 use cat_table::listing::Copied;
 use cat_table::map::Map;
 use cat_tree::text::Text;
 use cat_types::input::Offered;
+use cat_types::reference::Ref;
 use cat_types::work::Output;
 use std::alloc::{AllocError, Global};
 

@@ -14,7 +14,3 @@ pub mod forms;
 mod read;
 mod state;
 pub mod types;
-
-// What this crate stands on and hands on.
-pub use cat_kinds;
-pub use cat_model;

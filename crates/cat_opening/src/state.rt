@@ -5,12 +5,9 @@ ghost use Rattle.cat_model.specs.Step.{start};
 ghost use Rattle.cat_opening.specs.Standing as spec;
 ghost use Rattle.cat_table.specs.Table.{get, put, puts, text_cmp};
 
-use cat_items::items::OfferedItems;
-use cat_marks::marks::Marks;
 use cat_model::records::Records;
 use cat_model::rows::IndexedRows;
 use cat_model::types::{Origin, Orphan, OrphanRule, ProviderInputs, Record, Row, State};
-use cat_ref::reference::Ref;
 use cat_rows::row::{
     OrphanRule as StoredRule, StoredCounter, StoredOffer, StoredOutput, StoredRow,
 };
@@ -22,7 +19,10 @@ use cat_types::entries::Entries;
 use cat_types::input::Offered;
 use cat_types::issue::Issue;
 use cat_types::node::Node;
+use cat_types::reference::Ref;
 use cat_types::work::Output;
+use cat_values::items::OfferedItems;
+use cat_values::marks::Marks;
 use std::alloc::{AllocError, Global};
 
 // Trees by arrival number.

@@ -11,7 +11,7 @@ use Rattle.cat_table.specs.Table.{Map, find, get, keys, text_cmp, text_total, te
 use Rattle.cat_table.specs.Pairs.{pair_total, pair_antisymmetric}
 use Rattle.cat_table.specs.Places.{before}
 use Rattle.cat_tree.specs.Data.{Data}
-use Rattle.cat_search.specs.Rows.{Row, folded, same_text as same_folded, value_fits, has_row, document_rows, values_at}
+use Rattle.cat_values.specs.Rows.{Row, folded, same_text as same_folded, value_fits, has_row, document_rows, values_at}
 use Rattle.cat_search.specs.Terms.{Term, document_terms}
 use Rattle.cat_search.specs.Filter.{is_match}
 use Rattle.cat_search.specs.declared.condition.Condition.{Condition}

@@ -10,13 +10,13 @@ ghost use Rattle.cat_search.specs.Index.{AreLists};
 use crate::listed;
 use crate::query::Query;
 use crate::rank::{First, first_of};
-use cat_search::cat_ref::reference::Ref;
-use cat_search::cat_types::node::Node;
 use cat_search::condition::Filter;
 use cat_search::index::{self, Index, Lists};
 use cat_search::matches::is_accepted;
 use cat_table::map::Map;
 use cat_tree::tree::Tree;
+use cat_types::node::Node;
+use cat_types::reference::Ref;
 use std::alloc::{AllocError, Global};
 
 /// All documents, in order of reference. Only `matching` and `first` take memory.

@@ -18,6 +18,3 @@ pub mod page;
 pub mod paging;
 pub mod query;
 pub mod rank;
-
-// What this crate stands on and hands on.
-pub use cat_search;

@@ -13,8 +13,6 @@ ghost use Rattle.cat_pages.specs.Walked.{AreAtKey, IsListed, at_entry, at_refere
 
 use crate::query::{Cursor, OrderBy, Query};
 use crate::rank::{Ranked, candidate, is_falling};
-use cat_search::cat_ref::reference::Ref;
-use cat_search::cat_types::node::Node;
 use cat_search::folded::lower;
 use cat_search::index::Lists;
 use cat_search::matches::is_accepted;
@@ -23,6 +21,8 @@ use cat_search::terms::Term;
 use cat_table::map::Map;
 use cat_tree::text::Text;
 use cat_tree::tree::Tree;
+use cat_types::node::Node;
+use cat_types::reference::Ref;
 use std::alloc::{AllocError, Global};
 
 // ---- one document

@@ -6,8 +6,8 @@ ghost use Rattle.cat_pages.specs.SeenPage.{items_seen};
 
 use crate::query::Cursor;
 use crate::rank::Ranked;
-use cat_search::cat_ref::reference::Ref;
 use cat_tree::tree::Tree;
+use cat_types::reference::Ref;
 
 /// The first documents of an order after a place, lent.
 #[derive(Drop)]

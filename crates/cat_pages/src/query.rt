@@ -1,10 +1,10 @@
 //! What a query asks for.
 ghost use Rattle.std.specs.Prelude.{◌≤◌};
 
-use cat_search::cat_ref::reference::Ref;
 use cat_search::condition::Filter;
 use cat_table::listing::{Copied, Listing};
 use cat_tree::text::Text;
+use cat_types::reference::Ref;
 use std::alloc::{AllocError, Global};
 
 /// An order of documents: by their least value at a key in lower case, rising or falling.

@@ -7,11 +7,11 @@ ghost use Rattle.std.specs.Ordering.{is_lt};
 ghost use Rattle.cat_pages.specs.Seen.{place_seen, ranked_seen};
 
 use crate::query::{Cursor, OrderBy, Query};
-use cat_search::cat_ref::reference::Ref;
 use cat_search::folded::lower;
 use cat_search::values::values_at;
 use cat_tree::text::Text;
 use cat_tree::tree::Tree;
+use cat_types::reference::Ref;
 use std::alloc::{AllocError, Global};
 use std::cmp::Ordering;
 

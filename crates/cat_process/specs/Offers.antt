@@ -4,7 +4,7 @@ use Rattle.std.specs.List.{list_any, flat_map}
 use Rattle.cat_tree.specs.Data.{Data, words, dict, no_members}
 use Rattle.cat_tree.specs.Ask.{child_of}
 use Rattle.cat_tree.specs.Edit.{with_key}
-use Rattle.cat_ref.specs.Reference.{is_map, text_at}
+use Rattle.cat_types.specs.Reference.{is_map, text_at}
 use Rattle.cat_table.specs.Table.{Text, Map, same_text}
 use Rattle.cat_types.specs.declared.input.Offered.{Offered}
 use Rattle.cat_types.specs.declared.work.Content.{Content}

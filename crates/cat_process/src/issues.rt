@@ -1,6 +1,6 @@
 //! What is wrong with an entity, apart from the contents of its targets.
 ghost use Rattle.std.specs.Prelude.{◌≡◌, ℕ, [], ◌∷◌, List, map, IfOk, Ok};
-ghost use Rattle.cat_ref.specs.Reference.{described};
+ghost use Rattle.cat_types.specs.Reference.{described};
 ghost use Rattle.cat_schema.specs.Rules.{breaches};
 ghost use Rattle.cat_tree.specs.Data.{Data};
 ghost use Rattle.cat_tree.specs.View.{data_of};
@@ -10,15 +10,15 @@ ghost use Rattle.cat_process.specs.Process as spec;
 use crate::contents::entity_targets;
 use crate::message::{kind_text, schema_text, target_text};
 use cat_kinds::answer::{KindAnswer, KindFault, relations};
-use cat_ref::fault::RefFault;
-use cat_ref::reference::{Ref, ref_of};
 use cat_schema::faults::SchemaFault;
 use cat_schema::rules::{check, sound_names_entity};
 use cat_table::listing::Listing;
 use cat_target::target::TargetFault;
 use cat_tree::text::Text;
 use cat_tree::tree::Tree;
+use cat_types::fault::RefFault;
 use cat_types::issue::{Issue, IssueName, Level};
+use cat_types::reference::{Ref, ref_of};
 use std::alloc::{AllocError, Global};
 
 /// An issue of the level `error`.

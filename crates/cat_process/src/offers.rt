@@ -7,7 +7,6 @@ ghost use Rattle.cat_process.specs.Process.{duplicate as the_warning};
 
 use crate::message::spaced;
 use cat_inputs::shelf::Listed;
-use cat_ref::reference::Ref;
 use cat_tree::ask::{child, grandchild};
 use cat_tree::clone::copy;
 use cat_tree::edit::with_key;
@@ -16,6 +15,7 @@ use cat_tree::tree::{Pairs, Tree};
 use cat_types::input::Offered;
 use cat_types::issue::{Issue, IssueName, Level};
 use cat_types::node::Node;
+use cat_types::reference::Ref;
 use std::alloc::{AllocError, Global};
 use std::collections::BTreeSet;
 

@@ -11,7 +11,6 @@ use crate::message::{shelf_text, spaced};
 use crate::offers::{each_once, origin_of, push_offers};
 use cat_inputs::fault::ShelfFault;
 use cat_inputs::shelf::shelf_list;
-use cat_ref::reference::Ref;
 use cat_table::listing::Listing;
 use cat_target::location::is_optional;
 use cat_tree::ask::child;
@@ -23,6 +22,7 @@ use cat_types::entries::Entries;
 use cat_types::input::Offered;
 use cat_types::issue::{Issue, IssueName};
 use cat_types::node::Node;
+use cat_types::reference::Ref;
 use cat_types::work::{Content, Outcome, Output, Work};
 use std::alloc::{AllocError, Global};
 

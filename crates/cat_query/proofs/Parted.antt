@@ -1,7 +1,7 @@
 -- Filters that are read one after the other, and numbers of many digits.
 use Rattle.std.proofs.Common.{◌≡◌, ℕ, ◌*◌, ◌+◌, ◌-◌, List, [], ◌∷◌, ◌++◌, Result, Ok, Err, min, fold, ◌<◌, length, get_or, drop, ap, sym, ◌∙◌, arith}
 use Rattle.std.proofs.lemmas.List.{drop_more}
-use Rattle.cat_pages.specs.cat_search.specs.declared.condition.Condition.{Condition}
+use Rattle.cat_search.specs.declared.condition.Condition.{Condition}
 use Rattle.cat_query.specs.declared.fault.QueryFault.{QueryFault}
 use Rattle.cat_query.specs.Query.{with_digit}
 

@@ -10,7 +10,7 @@ use Rattle.serde_json.specs.Written.{has_float}
 use Rattle.cat_tree.specs.Data.{Data, item, items_of, list, no_items, null, words}
 use Rattle.cat_tree.specs.Read.{ReadsAs, IsReading, tree_of}
 use Rattle.cat_tree.specs.Text.{text_of}
-use Rattle.cat_ref.specs.Reference.{parsed}
+use Rattle.cat_types.specs.Reference.{parsed}
 use Rattle.cat_tree.specs.View.{data_of}
 use Rattle.cat_tree.specs.declared.tree.Tree.{Tree}
 use Rattle.cat_query.specs.Cursor.{IsCursor, IsNamed, cursor_data, cursor_text, value_data}

@@ -8,7 +8,7 @@ use Rattle.base64.specs.GeneralPurpose.{encode_of, decode_of}
 use Rattle.cat_tree.specs.Data.{Data, null, words, list, no_items, item}
 use Rattle.cat_tree.specs.Read.{ReadsAs}
 use Rattle.cat_tree.specs.Text.{text_of}
-use Rattle.cat_ref.specs.Reference.{parsed}
+use Rattle.cat_types.specs.Reference.{parsed}
 use Rattle.cat_pages.specs.declared.query.Cursor.{Cursor}
 
 -- the value, or null where there is none

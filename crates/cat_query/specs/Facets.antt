@@ -5,8 +5,8 @@ use Rattle.std.specs.Option.{unwrap_or}
 use Rattle.cat_tree.specs.Data.{Data, whole, words, list, dict, no_members, member, items_of, members_of}
 use Rattle.cat_table.specs.Table.{Map, get, put, text_cmp}
 use Rattle.cat_table.specs.Order.{in_order}
-use Rattle.cat_pages.specs.cat_search.specs.Rows.{document_rows, values_at}
-use Rattle.cat_pages.specs.cat_search.specs.declared.condition.Condition.{Condition}
+use Rattle.cat_values.specs.Rows.{document_rows, values_at}
+use Rattle.cat_search.specs.declared.condition.Condition.{Condition}
 use Rattle.cat_pages.specs.Page.{Pair, matching}
 
 -- one more at the text

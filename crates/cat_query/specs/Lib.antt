@@ -4,4 +4,3 @@ pub mod Cursor
 pub mod SeenQuery
 pub mod Facets
 pub mod Answers
-pub use Rattle.cat_pages

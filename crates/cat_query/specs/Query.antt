@@ -4,10 +4,10 @@ use Rattle.std.specs.List.{filter, flat_map, list_all, position_or_len, before_f
 use Rattle.std.specs.Char.{is_ascii_digit}
 use Rattle.std.specs.Str.Lossy.{utf8_lossy}
 use Rattle.form_urlencoded.specs.Form.{raw_pairs, decode}
-use Rattle.cat_pages.specs.cat_search.specs.Filter.{filter_of, pieces}
-use Rattle.cat_pages.specs.cat_search.specs.declared.condition.Condition.{Condition}
-use Rattle.cat_pages.specs.cat_search.specs.declared.condition.FilterFault.{FilterFault}
-use Rattle.cat_pages.specs.cat_search.specs.declared.condition.FilterFault.TheVariants.{EmptyKey, NoMemory as FilterNoMemory}
+use Rattle.cat_search.specs.Filter.{filter_of, pieces}
+use Rattle.cat_search.specs.declared.condition.Condition.{Condition}
+use Rattle.cat_search.specs.declared.condition.FilterFault.{FilterFault}
+use Rattle.cat_search.specs.declared.condition.FilterFault.TheVariants.{EmptyKey, NoMemory as FilterNoMemory}
 use Rattle.cat_pages.specs.declared.query.OrderBy.{OrderBy}
 use Rattle.cat_query.specs.declared.fault.QueryFault.{QueryFault}
 use Rattle.cat_query.specs.declared.fault.QueryFault.TheVariants.{Filter, BadOrder, BadLimit, NoMemory}

@@ -19,11 +19,11 @@ use cat_pages::page::Page;
 use cat_pages::paging::page;
 use cat_pages::query::{Cursor, Query};
 use cat_pages::rank::Ranked;
-use cat_ref::reference::Ref;
 use cat_table::listing::Listing;
 use cat_tree::room::{size, write_within};
 use cat_tree::text::Text;
 use cat_tree::tree::{Pairs, Tree};
+use cat_types::reference::Ref;
 use std::alloc::{AllocError, Global};
 
 const MOST_SIZE: u64 = 1 << 62;

@@ -1,8 +1,8 @@
 //! What is asked of a catalogue.
 use cat_pages::query::Query;
-use cat_ref::reference::Ref;
 use cat_table::listing::Listing;
 use cat_tree::text::Text;
+use cat_types::reference::Ref;
 
 /// A question to a catalogue. It changes nothing.
 #[derive(Drop)]

@@ -6,7 +6,7 @@ ghost use Rattle.cat_tree.specs.Data.{Data, item, items_of, list, no_items, word
 ghost use Rattle.cat_tree.specs.Read.{ReadsAs};
 ghost use Rattle.cat_tree.specs.Text.{text_of};
 ghost use Rattle.cat_tree.specs.View.{data_of};
-ghost use Rattle.cat_ref.specs.Reference.{parsed};
+ghost use Rattle.cat_types.specs.Reference.{parsed};
 ghost use Rattle.cat_query.specs.Cursor.{CursorIs, HasNoCursor, IsCursor, IsNamed, cursor_data, cursor_text, value_data};
 ghost use Rattle.cat_pages.specs.declared.query.Cursor.{Cursor as CursorData};
 
@@ -14,12 +14,12 @@ use crate::fault::QueryFault;
 use base64::DecodeAllocError;
 use base64::engine::general_purpose::URL_SAFE_NO_PAD;
 use cat_pages::query::Cursor;
-use cat_ref::fault::RefFault;
-use cat_ref::reference::{Ref, parse};
 use cat_tree::read::{TreeFault, read};
 use cat_tree::text::Text;
 use cat_tree::tree::{Tree, Trees};
 use cat_tree::write::write;
+use cat_types::fault::RefFault;
+use cat_types::reference::{Ref, parse};
 use std::alloc::{AllocError, Global};
 
 fn value_tree(alloc: Global, value: &Option<Text>) -> Result<Tree, AllocError>

@@ -17,6 +17,3 @@ mod parameters;
 mod parts;
 pub mod project;
 pub mod read;
-
-// What this crate stands on and hands on.
-pub use cat_pages;

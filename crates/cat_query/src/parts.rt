@@ -1,16 +1,16 @@
 //! The parts of a query, read from the values of its parameters.
 ghost use Rattle.std.specs.Prelude.{◌≡◌, ◌++◌, ◌⊎◌, ◌^◌, ◌<◌, ◌≤◌, Ok, Err, IfOk, IfErr, OnOk, map, min, true, false};
-ghost use Rattle.cat_pages.specs.cat_search.specs.declared.condition.FilterFault.{FilterFault};
+ghost use Rattle.cat_search.specs.declared.condition.FilterFault.{FilterFault};
 ghost use Rattle.std.specs.List.{list_all};
 ghost use Rattle.std.specs.Char.{is_ascii_digit};
-ghost use Rattle.cat_pages.specs.cat_search.specs.Filter.{filter_of, pieces};
+ghost use Rattle.cat_search.specs.Filter.{filter_of, pieces};
 ghost use Rattle.cat_query.specs.Query.{directed, fault_in, fields_of, filters_from, is_limit, limit_among, number_of, order_among, order_of};
 
 use crate::fault::QueryFault;
-use cat_pages::cat_search::condition::{Filter, FilterFault};
-use cat_pages::cat_search::pieces::next_piece;
-use cat_pages::cat_search::read::read_filter;
 use cat_pages::query::OrderBy;
+use cat_search::condition::{Filter, FilterFault};
+use cat_search::pieces::next_piece;
+use cat_search::read::read_filter;
 use cat_table::listing::Listing;
 use cat_tree::text::Text;
 use std::alloc::{AllocError, Global};

@@ -7,8 +7,8 @@ use cat_core::catalogue::{Catalogue, Done, Stitched};
 use cat_inputs::form::Form;
 use cat_inputs::input::read_mutation;
 use cat_layers::layered::Layered;
-use cat_ref::reference::parse;
 use cat_tree::text::Text;
+use cat_types::reference::parse;
 use std::alloc::{AllocError, Global};
 
 /// What became of an event.

@@ -1,1 +1,10 @@
 pub mod Offered
+pub mod Within
+pub mod Lost
+pub mod Added
+pub mod Same
+pub mod Stepped
+pub mod Mutated
+pub mod Own
+pub mod Nothing
+pub mod Inputs

@@ -1,1 +1,2 @@
-pub use Rattle.cat_reach
+pub mod Reach
+pub mod Gathered

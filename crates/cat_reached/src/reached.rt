@@ -1,21 +1,21 @@
 //! What an event reached.
 ghost use Rattle.std.specs.Prelude.{◌≡◌, IfOk, not, option_map};
 ghost use Rattle.std.specs.List.{filter};
-ghost use Rattle.cat_claims.specs.cat_holding.specs.Mend.{gone};
+ghost use Rattle.cat_model.specs.Mend.{gone};
 ghost use Rattle.cat_model.specs.Catalogue.{held};
 ghost use Rattle.cat_model.specs.Given.{given};
-ghost use Rattle.cat_reach.specs.Reach.{given_refs, has_lost, is_lost, own_refs, reached};
+ghost use Rattle.cat_reached.specs.Reach.{given_refs, has_lost, is_lost, own_refs, reached};
 
 use crate::refs::{append, given_by};
 use crate::seeds::{entity_seeds, mutation_seeds};
 use cat_claims::cut::cut_off;
 use cat_model::rows::IndexedRows;
 use cat_model::types::State;
-use cat_ref::reference::Ref;
 use cat_table::listing::Copied;
 use cat_table::map::Map;
 use cat_tree::text::Text;
 use cat_types::input::Mutation;
+use cat_types::reference::Ref;
 use std::alloc::{AllocError, Global};
 
 // Whether an arrival was a row's and is none's.

@@ -3,11 +3,11 @@ ghost use Rattle.std.specs.Prelude.{◌≡◌, ◌++◌, [], IfOk, option_map};
 ghost use Rattle.std.specs.List.{cons_option, filter_map, flat_map};
 ghost use Rattle.cat_model.specs.Catalogue.{row_at};
 ghost use Rattle.cat_model.specs.declared.types.Origin.TheVariants.{Entity};
-ghost use Rattle.cat_reach.specs.Reach.{refs_given};
+ghost use Rattle.cat_reached.specs.Reach.{refs_given};
 
 use cat_model::rows::IndexedRows;
-use cat_ref::reference::Ref;
 use cat_table::listing::Copied;
+use cat_types::reference::Ref;
 use std::alloc::{AllocError, Global};
 
 /// Puts references at the end of others.

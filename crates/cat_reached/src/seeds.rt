@@ -2,15 +2,15 @@
 ghost use Rattle.std.specs.Prelude.{◌≡◌, ℕ, List, IfOk, cond, map};
 ghost use Rattle.cat_model.specs.Given.{given, offers_of};
 ghost use Rattle.cat_model.specs.Step.{source_at};
-ghost use Rattle.cat_reach.specs.Reach.{given_refs, own_refs};
+ghost use Rattle.cat_reached.specs.Reach.{given_refs, own_refs};
 ghost use Rattle.cat_table.specs.Table.{get, keys};
 
 use crate::refs::{append, push_given};
 use cat_model::types::State;
-use cat_ref::reference::Ref;
 use cat_table::listing::{Copied, Listing};
 use cat_tree::text::Text;
 use cat_types::input::{Item, Mutation};
+use cat_types::reference::Ref;
 use std::alloc::{AllocError, Global};
 
 // The items of a mutation.

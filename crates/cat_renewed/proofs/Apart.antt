@@ -16,7 +16,7 @@ use Rattle.cat_keeper.specs.Store.{RowKey}
 use Rattle.cat_rows.specs.declared.row.StoredCounter.{StoredCounter}
 use Rattle.cat_rows.specs.declared.row.StoredCounter.TheVariants.{Arrival, Number}
 use Rattle.cat_tables.proofs.In.{In, from_flat, in_either, in_flat, in_left, in_right}
-use Rattle.cat_reach.specs.Reach.{has}
+use Rattle.cat_reached.specs.Reach.{has}
 use Rattle.cat_renewed.specs.Places.{fixed_places, giver_places, is_of, key_of, name_places, named_places, places, places_at, provider_places, reference_places, row_places}
 use Rattle.cat_renewed.specs.Renewed.{IsKept, is_it}
 use Rattle.cat_renewed.specs.declared.place.Place.{Place}

@@ -16,10 +16,10 @@ use Rattle.cat_rows.specs.declared.row.StoredRow.{StoredRow}
 use Rattle.cat_rows.specs.declared.row.StoredRow.TheVariants as row
 use Rattle.cat_tables.specs.Stored.{all_rows, emitted, is_blank, pairs_cmp, record_row, stored}
 use Rattle.cat_tables.proofs.In.{In, alike, none_some, same_some}
-use Rattle.cat_reopened.proofs.Offers.{emitted_at}
-use Rattle.cat_reopened.proofs.Rows.{place}
-use Rattle.cat_reopened.proofs.Views.{Is, has_item, has_orphan, has_provider, has_record, has_text, has_tree}
-use Rattle.cat_reach.specs.Reach.{has}
+use Rattle.cat_renewed.proofs.Offers.{emitted_at}
+use Rattle.cat_renewed.proofs.Rows.{place}
+use Rattle.cat_renewed.proofs.Views.{Is, has_item, has_orphan, has_provider, has_record, has_text, has_tree}
+use Rattle.cat_reached.specs.Reach.{has}
 use Rattle.cat_renewed.specs.Places.{key_of, output_with}
 use Rattle.cat_renewed.specs.Renewed.{AreSorted, IsBeyond, IsKept}
 use Rattle.cat_renewed.specs.declared.place.Place.TheVariants.{Record}

@@ -20,9 +20,9 @@ use Rattle.cat_rows.specs.declared.row.StoredRow.{StoredRow}
 use Rattle.cat_tables.specs.Stored.{all_rows, is_blank, keyed, put_rows, rows_of, stored}
 use Rattle.cat_tables.proofs.In.{In, alike, found_puts, from_map, in_map, none_some}
 use Rattle.cat_tables.proofs.Leading.{row_antisymmetric, row_total}
-use Rattle.cat_reopened.proofs.Rows.{found_row, place}
-use Rattle.cat_reopened.proofs.Same.{IsBlank, blank, no_rows, rows_are}
-use Rattle.cat_reopened.proofs.Views.{Is}
+use Rattle.cat_renewed.proofs.Rows.{found_row, place}
+use Rattle.cat_renewed.proofs.Same.{IsBlank, blank, no_rows, rows_are}
+use Rattle.cat_renewed.proofs.Views.{Is}
 use Rattle.cat_renewed.specs.Renewed.{AreSorted, IsKept}
 use Rattle.cat_renewed.proofs.Standing.{all_apart, what_is}
 

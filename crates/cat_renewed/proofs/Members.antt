@@ -10,7 +10,7 @@ use Rattle.cat_table.proofs.Tables.{and_first, and_second, same_is, same_self, t
 use Rattle.cat_model.specs.Rows.{Rows, given, is_from, is_named, named, row_at, same_origin}
 use Rattle.cat_model.specs.declared.types.Origin.{Origin}
 use Rattle.cat_model.specs.declared.types.Row.{Row}
-use Rattle.cat_laws.proofs.Replaced.{same_origin-is, same_origin-self}
+use Rattle.cat_model.proofs.Replaced.{same_origin-is, same_origin-self}
 use Rattle.cat_tables.proofs.In.{In, in_found, in_map}
 use Rattle.cat_renewed.specs.Places.{is_of}
 

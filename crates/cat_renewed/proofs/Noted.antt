@@ -17,7 +17,7 @@ use Rattle.cat_model.specs.declared.types.Row.{Row}
 use Rattle.cat_model.specs.declared.types.State.{State}
 use Rattle.cat_tables.specs.Stored.{emitted, emitted_as, emitted_by, pairs_cmp, record_row}
 use Rattle.cat_tables.proofs.In.{In, alike, found_in, found_in_puts, from_flat, from_puts, in_flat, none_some}
-use Rattle.cat_reopened.proofs.Offers.{emitted_at, pairs_antisymmetric, pairs_total}
+use Rattle.cat_renewed.proofs.Offers.{emitted_at, pairs_antisymmetric, pairs_total}
 use Rattle.cat_renewed.specs.Places.{arrivals_of, noted_as, noted_at, record_with}
 use Rattle.cat_renewed.specs.Renewed.{AreSorted, IsKept}
 use Rattle.cat_renewed.proofs.Members.{from_given, in_given}

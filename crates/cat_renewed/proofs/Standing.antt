@@ -7,7 +7,7 @@ use Rattle.std.specs.Option.{option_and_then}
 use Rattle.std.specs.Cmp.{nat_cmp_total}
 use Rattle.std.specs.FinMap.{nat_cmp-IsAntisymmetric}
 use Rattle.std.specs.List.{flat_map}
-use Rattle.cat_ref.specs.Names.{is_name}
+use Rattle.cat_types.specs.Names.{is_name}
 use Rattle.cat_table.specs.Table.{Text, get}
 use Rattle.cat_table.proofs.Tables.{text_antisymmetric, text_total}
 use Rattle.cat_model.specs.Catalogue.{row_at}
@@ -27,9 +27,9 @@ use Rattle.cat_rows.specs.declared.row.StoredRow.TheVariants.{Counter, Provider,
 use Rattle.cat_tables.specs.Stored.{all_rows, counter_rows, emitted, given_rows, item_rows, kept_in, orphan_row, provider_row, record_row, rule_of, shelf_row}
 use Rattle.cat_tables.specs.declared.version.Version.TheVariants.{Two}
 use Rattle.cat_tables.proofs.In.{In, found_in, from_flat, from_map, in_either, none_some, same_some}
-use Rattle.cat_reopened.proofs.Rows.{AreApart}
-use Rattle.cat_reopened.proofs.Values.{one_arrival, one_counter, one_item}
-use Rattle.cat_reopened.proofs.Views.{Is, by_parts, next_of}
+use Rattle.cat_renewed.proofs.Rows.{AreApart}
+use Rattle.cat_renewed.proofs.Values.{one_arrival, one_counter, one_item}
+use Rattle.cat_renewed.proofs.Views.{Is, by_parts, next_of}
 use Rattle.cat_renewed.specs.Renewed.{AreSorted, IsKept}
 
 pub to_T : (b : Bool) → IsTrue b → T b

@@ -4,7 +4,7 @@ use Rattle.std.specs.Prelude.{IsTrue, if◌then◌else◌}
 use Rattle.std.specs.declared.option.Option.{Option}
 use Rattle.std.specs.declared.option.Option.TheVariants.{None, Some}
 use Rattle.std.specs.Option.{option_map}
-use Rattle.cat_ref.specs.Names.{is_name}
+use Rattle.cat_types.specs.Names.{is_name}
 use Rattle.cat_table.specs.Table.{Text, find, get}
 use Rattle.cat_table.proofs.Tables.{some_or_none}
 use Rattle.cat_model.specs.Catalogue.{Ref, row_at}
@@ -21,9 +21,9 @@ use Rattle.cat_rows.specs.declared.row.StoredRow.{StoredRow}
 use Rattle.cat_rows.specs.declared.row.StoredRow.TheVariants as row
 use Rattle.cat_tables.specs.Stored.{all_rows, emitted, is_blank, orphan_row, provider_row, record_row, rule_of, shelf_row, stored}
 use Rattle.cat_tables.proofs.In.{In, none_some, same_some}
-use Rattle.cat_reopened.proofs.Rows.{place}
-use Rattle.cat_reopened.proofs.Values.{one_arrival, one_counter, one_item}
-use Rattle.cat_reopened.proofs.Views.{has_counter, has_item, has_orphan, has_provider, has_record, has_settings, has_text, has_tree, next_of}
+use Rattle.cat_renewed.proofs.Rows.{place}
+use Rattle.cat_renewed.proofs.Values.{one_arrival, one_counter, one_item}
+use Rattle.cat_renewed.proofs.Views.{has_counter, has_item, has_orphan, has_provider, has_record, has_settings, has_text, has_tree, next_of}
 use Rattle.cat_renewed.specs.Places.{arrivals_of, item_among, key_of, next_at, record_with, row_of, unless_blank}
 use Rattle.cat_renewed.specs.Renewed.{AreSorted, IsKept}
 use Rattle.cat_renewed.specs.declared.place.Place.{Place}

@@ -1,3 +1,4 @@
 pub mod Renewed
 pub mod Places
-pub use Rattle.cat_reopened
+pub mod Told
+pub mod Right

@@ -5,14 +5,14 @@ use Rattle.std.specs.declared.option.Option.TheVariants.{None, Some}
 use Rattle.std.specs.FinMap.Entries.{is_sorted}
 use Rattle.std.specs.List.{list_any}
 use Rattle.std.specs.Ordering.{eq_by_cmp, nat_cmp}
-use Rattle.cat_ref.specs.Names.{is_name}
+use Rattle.cat_types.specs.Names.{is_name}
 use Rattle.cat_table.specs.Table.{Text, find, get, same_text, text_cmp}
 use Rattle.cat_model.specs.Sound.{AreOffers}
 use Rattle.cat_model.specs.declared.types.ProviderInputs.{ProviderInputs}
 use Rattle.cat_model.specs.declared.types.State.{State}
 use Rattle.cat_keeper.specs.Store.{RowKey, row_cmp}
 use Rattle.cat_tables.specs.Stored.{Stored}
-use Rattle.cat_reach.specs.Reach.{AreSameBeyond}
+use Rattle.cat_reached.specs.Reach.{AreSameBeyond}
 use Rattle.cat_renewed.specs.declared.reached.Reached.{Reached}
 
 -- whether a text is this one, if there is one

@@ -6,11 +6,11 @@ ghost use Rattle.cat_renewed.specs.Places as spec;
 
 use cat_model::rows::IndexedRows;
 use cat_model::types::{Origin, Row, State};
-use cat_ref::reference::Ref;
 use cat_rows::row::StoredRow;
 use cat_table::key::Key;
 use cat_table::listing::Copied;
 use cat_tree::text::Text;
+use cat_types::reference::Ref;
 use std::alloc::{AllocError, Global};
 use std::cmp::Ordering;
 

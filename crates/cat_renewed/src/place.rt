@@ -5,13 +5,13 @@ ghost use Rattle.cat_stitch.specs.Uid.{last_digits};
 ghost use Rattle.cat_renewed.specs.Places as spec;
 
 use cat_keeper::table::Table;
-use cat_ref::reference::Ref;
 use cat_rows::names::counter_text;
 use cat_rows::row::{StoredCounter, StoredRow};
 use cat_rows::write::row_key;
 use cat_tree::text::Text;
 use cat_tree::tree::Tree;
 use cat_types::node::Node;
+use cat_types::reference::Ref;
 use std::alloc::{AllocError, Global};
 
 /// What the key of a row stands for.

@@ -8,11 +8,11 @@ use crate::reached::Reached;
 use cat_keeper::table::Table;
 use cat_model::rows::IndexedRows;
 use cat_model::types::{Origin, Row, State};
-use cat_ref::reference::Ref;
 use cat_rows::row::StoredCounter;
 use cat_table::listing::Copied;
 use cat_table::map::Map;
 use cat_tree::text::Text;
+use cat_types::reference::Ref;
 use std::alloc::{AllocError, Global};
 
 /// Places, each under the key that stands for it, in order of the keys.

@@ -1,8 +1,8 @@
 //! What an event reached, and the rows that are made of it.
 use cat_keeper::table::Table;
-use cat_ref::reference::Ref;
 use cat_tables::stored::Stored;
 use cat_tree::text::Text;
+use cat_types::reference::Ref;
 
 /// What an event may have changed of what is stored: references, and at most one provider and one text of the shelf.
 #[derive(Drop)]

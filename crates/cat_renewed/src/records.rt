@@ -5,11 +5,11 @@ ghost use Rattle.cat_renewed.specs.Places as spec;
 
 use cat_model::rows::IndexedRows;
 use cat_model::types::{Record, State};
-use cat_ref::reference::Ref;
 use cat_rows::row::{StoredOffer, StoredOutput, StoredRow};
 use cat_table::listing::{Copied, Listing};
 use cat_table::map::Map;
 use cat_types::input::Offered;
+use cat_types::reference::Ref;
 use cat_types::work::Output;
 use std::alloc::{AllocError, Global};
 

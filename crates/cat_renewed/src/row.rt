@@ -7,10 +7,10 @@ use crate::item::item_at;
 use crate::place::Place;
 use crate::records::record_at;
 use cat_model::types::{OrphanRule, State};
-use cat_ref::reference::Ref;
 use cat_rows::row::{OrphanRule as StoredRule, StoredCounter, StoredRow};
 use cat_table::listing::Copied;
 use cat_tree::text::Text;
+use cat_types::reference::Ref;
 use std::alloc::{AllocError, Global};
 
 // Whether there is nothing that a store tells of.

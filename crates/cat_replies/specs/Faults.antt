@@ -3,7 +3,7 @@ use Rattle.std.specs.Prelude.{ℕ, List, [], ◌∷◌, codes}
 use Rattle.std.specs.Fmt.{decimal}
 use Rattle.cat_tree.specs.declared.read.TreeFault.{TreeFault}
 use Rattle.cat_tree.specs.declared.read.TreeFault.TheVariants as tree
-use Rattle.cat_ref.specs.Faults.{fault_text}
+use Rattle.cat_types.specs.Faults.{fault_text}
 use Rattle.cat_inputs.specs.Faults.{place_text}
 use Rattle.cat_inputs.specs.declared.fault.InputFault.{InputFault}
 use Rattle.cat_inputs.specs.declared.fault.InputFault.TheVariants as input

@@ -6,5 +6,3 @@ pub mod Shown
 pub mod Lists
 pub mod Faults
 pub mod Asks
-pub use Rattle.cat_query.specs.cat_pages
-pub use Rattle.cat_query

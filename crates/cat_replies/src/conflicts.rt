@@ -7,10 +7,10 @@ ghost use Rattle.cat_replies.specs.Shown as seen;
 
 use cat_model::rows::IndexedRows;
 use cat_model::types::{Row, State};
-use cat_ref::reference::Ref;
 use cat_table::key::Key;
 use cat_table::listing::Copied;
 use cat_table::map::Map;
+use cat_types::reference::Ref;
 use std::alloc::{AllocError, Global};
 use std::cmp::Ordering;
 

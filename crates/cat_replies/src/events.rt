@@ -6,7 +6,7 @@ ghost use Rattle.cat_replies.specs.Events as spec;
 
 use crate::line::{Piece, push_line, push_text};
 use cat_model::types::{Acted, Counter, Counts, Fault, Finished, Placed, StateCounts};
-use cat_ref::reference::Ref;
+use cat_types::reference::Ref;
 use std::alloc::AllocError;
 
 fn say(out: &mut Vec<u8>, words: &str) -> Result<(), AllocError>

@@ -11,7 +11,3 @@ pub mod events;
 pub mod faults;
 pub mod line;
 pub mod lists;
-
-// What this crate stands on and hands on.
-pub use cat_query;
-pub use cat_query::cat_pages;

@@ -1,7 +1,7 @@
 -- The words of errors.
 use Rattle.std.proofs.Common.{◌≡◌, ℕ, List, [], ◌∷◌, ◌++◌, refl, sym, ap, ◌∙◌, append_assoc, codes}
 use Rattle.std.specs.Fmt.{decimal}
-use Rattle.cat_changes.specs.Place.{since_text}
+use Rattle.cat_feed.specs.Place.{since_text}
 use Rattle.cat_feed.specs.declared.change.Since.{Since}
 use Rattle.cat_http.specs.Errors.{error_body}
 use Rattle.cat_replies.specs.Line.{joined}

@@ -4,4 +4,3 @@ pub mod Refusals
 pub mod Bodies
 pub mod Requests
 pub mod Answers
-pub use Rattle.cat_replies

@@ -3,7 +3,7 @@ use Rattle.std.specs.Prelude.{ℕ, List, [], ◌∷◌, drop, Option, None, Some
 use Rattle.std.specs.List.{starts_with}
 use Rattle.std.specs.Str.{is_utf8}
 use Rattle.percent_encoding.specs.Percent.{percent_decode}
-use Rattle.cat_ref.specs.Reading.{cut}
+use Rattle.cat_types.specs.Reading.{cut}
 use Rattle.cat_table.specs.Table.{Text}
 use Rattle.cat_inputs.specs.declared.form.Form.{Form}
 use Rattle.cat_inputs.specs.declared.form.Form.TheVariants.{Full, Delta}

@@ -3,13 +3,13 @@ use Rattle.std.specs.Prelude.{ℕ, List, [], ◌∷◌, codes}
 use Rattle.std.specs.Fmt.{decimal}
 use Rattle.cat_tree.specs.declared.read.TreeFault.{TreeFault}
 use Rattle.cat_tree.specs.declared.read.TreeFault.TheVariants as tree
-use Rattle.cat_ref.specs.Faults.{fault_text}
+use Rattle.cat_types.specs.Faults.{fault_text}
 use Rattle.cat_inputs.specs.Faults.{place_text}
 use Rattle.cat_inputs.specs.declared.fault.InputFault.{InputFault}
 use Rattle.cat_inputs.specs.declared.fault.InputFault.TheVariants as input
 use Rattle.cat_query.specs.declared.fault.QueryFault.{QueryFault}
 use Rattle.cat_query.specs.declared.fault.QueryFault.TheVariants as query
-use Rattle.cat_changes.specs.Place.{since_text}
+use Rattle.cat_feed.specs.Place.{since_text}
 use Rattle.cat_replies.specs.Events.{counter_text}
 use Rattle.cat_requests.specs.declared.refusal.Methods.{Methods}
 use Rattle.cat_requests.specs.declared.refusal.Methods.TheVariants as methods

@@ -1,12 +1,12 @@
 -- What a message asks for, or why it is refused.
 use Rattle.std.specs.Prelude.{⊤, IsTrue, ℕ, List, [], ◌∷◌, ◌++◌, Option, None, Some, Result, Ok, Err, bytes_eq, codes, ◌||◌, if◌then◌else◌}
-use Rattle.cat_ref.specs.Names.{is_name, is_shelf_name}
-use Rattle.cat_ref.specs.Reference.{parsed}
-use Rattle.cat_ref.specs.declared.fault.RefFault.{RefFault}
+use Rattle.cat_types.specs.Names.{is_name, is_shelf_name}
+use Rattle.cat_types.specs.Reference.{parsed}
+use Rattle.cat_types.specs.declared.fault.RefFault.{RefFault}
 use Rattle.cat_table.specs.Table.{Text as Words}
 use Rattle.cat_types.specs.declared.input.Mutation.{Mutation}
 use Rattle.cat_feed.specs.declared.change.Since.{Since}
-use Rattle.cat_changes.specs.Place.{since_of}
+use Rattle.cat_feed.specs.Place.{since_of}
 use Rattle.cat_inputs.specs.Inputs.{mutation_of}
 use Rattle.cat_inputs.specs.declared.fault.InputFault.{InputFault}
 use Rattle.cat_inputs.specs.declared.form.Form.{Form}

@@ -1,7 +1,7 @@
 //! How requests are answered.
 ghost use Rattle.std.specs.Prelude.{◌≡◌, ◌++◌, ◌+◌, ◌≤◌, ◌∷◌, [], IfOk, IsOk, OnOk, map, length, vec_capacity, vec_len};
 ghost use Rattle.cat_http.specs.Errors.{error_body};
-ghost use Rattle.cat_changes.specs.Place.{since_text};
+ghost use Rattle.cat_feed.specs.Place.{since_text};
 ghost use Rattle.cat_replies.specs.Events.{counter_text};
 ghost use Rattle.cat_replies.specs.Line.{joined};
 ghost use Rattle.cat_replies.specs.Piece.{piece_most, piece_text};

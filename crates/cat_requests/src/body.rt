@@ -11,13 +11,13 @@ use crate::refusal::{Refusal, input_refusal};
 use cat_inputs::fault::{InputFault, Place, json_fault};
 use cat_inputs::text::read_tree;
 use cat_query::ask::Ask;
-use cat_ref::fault::RefFault;
-use cat_ref::reference::{Ref, parse, text_at, text_in};
 use cat_search::pieces::next_piece;
 use cat_table::listing::Listing;
 use cat_tree::ask::child;
 use cat_tree::text::Text;
 use cat_tree::tree::Tree;
+use cat_types::fault::RefFault;
+use cat_types::reference::{Ref, parse, text_at, text_in};
 use std::alloc::{AllocError, Global};
 
 // The texts of a list of texts.

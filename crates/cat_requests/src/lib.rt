@@ -5,7 +5,7 @@
 //! promises that both are what definitions compute from the message and the answer. It knows nothing of a catalogue.
 //!
 //! It stands on cat_http for messages and replies, on cat_inputs for the bodies of mutations, on cat_commands and cat_query
-//! for queries, on cat_feed and cat_changes for places of a feed, on cat_ref for names and references, and on `percent_encoding` for the pieces of paths.
+//! for queries, on cat_feed and cat_feed for places of a feed, on cat_types for names and references, and on `percent_encoding` for the pieces of paths.
 #![tactic(auto)]
 
 pub mod answer;
@@ -15,6 +15,3 @@ pub mod path;
 pub mod refusal;
 pub mod request;
 pub mod uid;
-
-// What this crate stands on and hands on.
-pub use cat_replies;

@@ -1,6 +1,6 @@
 //! What messages ask for.
 ghost use Rattle.std.specs.Prelude.{◌≡◌, ◌⊎◌, map, IfOk, IfErr, IsTrue, Ok, Err, string_bytes};
-ghost use Rattle.cat_ref.specs.Names.{is_shelf_name};
+ghost use Rattle.cat_types.specs.Names.{is_shelf_name};
 ghost use Rattle.cat_requests.specs.Requests as spec;
 
 use crate::body::{many_of, reference_of};
@@ -8,20 +8,20 @@ use crate::parameters::{parameters, values_named};
 use crate::path::{Fixed, Resource, resource_of};
 use crate::refusal::{Methods, Refusal, input_refusal, query_refusal};
 use crate::uid::number_of_uid;
-use cat_changes::place::since_of;
 use cat_commands::argument::utf8_in;
 use cat_commands::query::query_of;
 use cat_feed::change::Since;
+use cat_feed::place::since_of;
 use cat_http::message::Message;
 use cat_inputs::form::Form;
 use cat_inputs::input::read_mutation;
 use cat_pages::query::Query;
 use cat_query::ask::Ask;
-use cat_ref::fault::RefFault;
-use cat_ref::names::{is_name, is_shelf_name};
-use cat_ref::reference::{Ref, parse};
 use cat_tree::text::Text;
+use cat_types::fault::RefFault;
 use cat_types::input::Mutation;
+use cat_types::names::{is_name, is_shelf_name};
+use cat_types::reference::{Ref, parse};
 use std::alloc::{AllocError, Global};
 
 /// What a message asks for.

@@ -17,7 +17,7 @@ use Rattle.cat_rows.specs.Formed.{is_formed, are_bare, has_tree, lacks_tree, is_
 use Rattle.cat_rows.specs.Names.{counter_text, rule_text}
 use Rattle.cat_rows.specs.Parsed.{and_then, with_front, onto, each_of, number_in, number_at, words_at, field, reference_in, reference_at, level_in, issue_name_in, counter_in, rule_in, issue_in, issues_at, offer_in, offers_at, output_in, kept_in, kept_at, read_or_bad, item_of, item_in, item_row, is_parted, record_in, record_row, first_has_tree, orphan_in, hex_in, row_in}
 use Rattle.cat_rows.specs.Spelled.{IsRef, IsNamed, OffersNamed, OutputNamed}
-use Rattle.cat_ref.specs.Names.{is_name}
+use Rattle.cat_types.specs.Names.{is_name}
 use Rattle.cat_rows.specs.Text.{item_key, row_table, row_key, row_data, number, issue_data, offer_data, output_data, kept_data, record_data, given_data}
 use Rattle.cat_rows.specs.declared.row.OrphanRule.{OrphanRule}
 use Rattle.cat_rows.specs.declared.row.OrphanRule.TheVariants.{Keep, Delete}

@@ -6,7 +6,7 @@ use Rattle.std.proofs.lemmas.Bool.{eqb-true}
 use Rattle.std.proofs.lemmas.Bool.Decides.{nat_tests}
 use Rattle.std.specs.Prelude.{Bool, ◌&&◌, ◌==◌, not, nat_lt, IsTrue}
 use Rattle.std.specs.List.{list_all, prefix_len, position_or_len, before_first, after_first}
-use Rattle.cat_ref.specs.Names.{is_name, is_name_byte}
+use Rattle.cat_types.specs.Names.{is_name, is_name_byte}
 use Rattle.cat_rows.specs.Text.{item_key}
 use Rattle.cat_rows.specs.Parsed.{is_parted}
 use Rattle.cat_rows.proofs.Steps.{both}

@@ -1,7 +1,7 @@
 -- Which rows have a spelling.
 use Rattle.std.specs.Prelude.{◌≡◌, ℕ, ◌^◌, ◌≤◌, List, [], ◌∷◌, Bool, true, false, ◌&&◌, not, nat_lt, is_some, Option, None, Some, IsTrue}
 use Rattle.std.specs.List.{list_all}
-use Rattle.cat_ref.specs.Names.{is_name, is_shelf_name}
+use Rattle.cat_types.specs.Names.{is_name, is_shelf_name}
 use Rattle.cat_tree.specs.Ask.{depth_of}
 use Rattle.cat_tree.specs.Proper.{IsNarrow}
 use Rattle.cat_rows.specs.Text.{row_data}

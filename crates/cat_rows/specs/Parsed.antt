@@ -2,8 +2,8 @@
 use Rattle.std.specs.Prelude.{◌≡◌, ℕ, ◌^◌, pos, negsuc, List, [], ◌∷◌, ◌++◌, Bool, true, false, Option, None, Some, Result, Ok, Err, ◌&&◌, ◌==◌, ◌*◌, ◌+◌, ◌-◌, nat_lt, nat_le, is_some, length, if◌then◌else◌, bytes_eq, codes}
 use Rattle.std.specs.List.{before_first, after_first, position_or_len}
 use Rattle.std.specs.Option.{ok_or}
-use Rattle.cat_ref.specs.Reference.{parsed, text_in, text_at}
-use Rattle.cat_ref.specs.declared.fault.RefFault.{RefFault}
+use Rattle.cat_types.specs.Reference.{parsed, text_in, text_at}
+use Rattle.cat_types.specs.declared.fault.RefFault.{RefFault}
 use Rattle.cat_stitch.specs.Issues.{level_text, issue_name_text}
 use Rattle.cat_table.specs.Table.{Text}
 use Rattle.cat_tree.specs.Ask.{child_of}

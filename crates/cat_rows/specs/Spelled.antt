@@ -1,6 +1,6 @@
 -- The spelling of a row.
 use Rattle.std.specs.Prelude.{◌≡◌, ℕ, List, [], ◌∷◌, Option, None, Some, Ok, ⊤}
-use Rattle.cat_ref.specs.Reference.{parsed}
+use Rattle.cat_types.specs.Reference.{parsed}
 use Rattle.cat_table.specs.Table.{Text}
 use Rattle.cat_tree.specs.Read.{ReadsAs}
 use Rattle.cat_tree.specs.Text.{text_of}

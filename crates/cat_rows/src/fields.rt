@@ -5,13 +5,13 @@ ghost use Rattle.cat_tree.specs.View.{data_of};
 ghost use Rattle.cat_rows.specs.Parsed as parsed;
 
 use crate::row::RowFault;
-use cat_ref::fault::RefFault;
-use cat_ref::reference::{Ref, parse, text_at, text_in};
 use cat_tree::ask::child;
 use cat_tree::clone::copy;
 use cat_tree::text::Text;
 use cat_tree::tree::Tree;
+use cat_types::fault::RefFault;
 use cat_types::node::Node;
+use cat_types::reference::{Ref, parse, text_at, text_in};
 use std::alloc::Global;
 
 /// Lends the tree at a key.

@@ -7,7 +7,7 @@
 //! Two versions are read and written. In the second each tree of an item or an offer has a row of its own under its arrival
 //! number; in the first it stands beside the item or the offer, in rows of their own forms.
 //!
-//! The crate stands on cat_tree, cat_ref, cat_table and cat_types, on cat_stitch for the names of issues, and on cat_keeper
+//! The crate stands on cat_tree, cat_types and cat_table, on cat_stitch for the names of issues, and on cat_keeper
 //! for the tables.
 #![tactic(auto)]
 

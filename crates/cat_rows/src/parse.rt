@@ -11,12 +11,12 @@ use crate::fields::{
 use crate::names::{counter_in, issue_name_in, level_in, rule_in};
 use crate::row::{OrphanRule, RowFault, StoredOffer, StoredOutput, StoredRow};
 use cat_keeper::table::Table;
-use cat_ref::reference::Ref;
 use cat_table::listing::Listing;
 use cat_tree::text::Text;
 use cat_tree::tree::Tree;
 use cat_types::issue::{Issue, IssueName, Level};
 use cat_types::node::Node;
+use cat_types::reference::Ref;
 use std::alloc::Global;
 
 // The level of an issue.

@@ -17,11 +17,11 @@ use crate::row::{RowFault, StoredOffer, StoredOutput, StoredRow};
 use crate::tree::row_tree;
 use crate::write::{row_key, row_table};
 use cat_keeper::table::Table;
-use cat_ref::names::{is_name, is_shelf_name};
 use cat_tree::ask::{depth, same};
 use cat_tree::read::{TreeFault, read};
 use cat_tree::tree::Tree;
 use cat_tree::write::write;
+use cat_types::names::{is_name, is_shelf_name};
 use std::alloc::{AllocError, Global};
 
 const MOST_DEPTH: u64 = 127;

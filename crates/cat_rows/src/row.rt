@@ -1,9 +1,9 @@
 //! What rows say.
-use cat_ref::reference::Ref;
 use cat_table::listing::Listing;
 use cat_tree::text::Text;
 use cat_types::issue::Issue;
 use cat_types::node::Node;
+use cat_types::reference::Ref;
 use std::alloc::{AllocError, AllocFailed};
 use thiserror::Error;
 

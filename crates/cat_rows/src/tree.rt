@@ -7,7 +7,6 @@ ghost use Rattle.cat_rows.specs.Text as text;
 
 use crate::names::rule_text;
 use crate::row::{OrphanRule, StoredOffer, StoredOutput, StoredRow};
-use cat_ref::reference::Ref;
 use cat_stitch::issues::{issue_name_text, level_text};
 use cat_stitch::make::{empty_map, with_words, words};
 use cat_tree::clone::copy;
@@ -15,6 +14,7 @@ use cat_tree::edit::with_key;
 use cat_tree::tree::{Tree, Trees};
 use cat_types::issue::Issue;
 use cat_types::node::Node;
+use cat_types::reference::Ref;
 use std::alloc::{AllocError, Global};
 
 // A number as a tree.

@@ -1,3 +1,2 @@
 pub mod Sample
 pub mod Summary
-pub use Rattle.cat_core

@@ -3,8 +3,8 @@ use Rattle.std.specs.Prelude.{ℕ, zero, suc, ◌+◌, ◌*◌, ◌/◌, ◌%◌
 use Rattle.std.specs.Fmt.{decimal}
 use Rattle.cat_tree.specs.Data.{Data, words, list, dict, no_items, item, members_of}
 use Rattle.cat_tree.specs.Edit.{with_key}
-use Rattle.cat_ref.specs.Reference.{described}
-use Rattle.cat_ref.specs.declared.fault.RefFault.{RefFault}
+use Rattle.cat_types.specs.Reference.{described}
+use Rattle.cat_types.specs.declared.fault.RefFault.{RefFault}
 use Rattle.cat_table.specs.Table.{Text}
 use Rattle.cat_types.specs.declared.input.Item.{Item}
 use Rattle.cat_types.specs.declared.input.Mutation.{Mutation}

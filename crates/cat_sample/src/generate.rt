@@ -4,15 +4,15 @@ ghost use Rattle.cat_tree.specs.Data.{dict, members_of};
 ghost use Rattle.cat_tree.specs.View.{data_of};
 ghost use Rattle.cat_sample.specs.Sample as made;
 
-use cat_ref::fault::RefFault;
-use cat_ref::reference::ref_of;
 use cat_stitch::make::{empty_map, with_words, words};
 use cat_table::listing::Listing;
 use cat_tree::edit::with_key;
 use cat_tree::text::Text;
 use cat_tree::tree::{Tree, Trees};
+use cat_types::fault::RefFault;
 use cat_types::input::{Item, Mutation};
 use cat_types::node::Node;
+use cat_types::reference::ref_of;
 use itoa::Buffer;
 use std::alloc::{AllocError, Global};
 

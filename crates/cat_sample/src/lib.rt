@@ -12,6 +12,3 @@ mod settled;
 mod summary;
 
 pub use settled::sample;
-
-// What this crate stands on and hands on.
-pub use cat_core;

@@ -7,12 +7,12 @@ ghost use Rattle.cat_sample.specs.Summary as told;
 
 use crate::generate::{GROUPS, numbered};
 use cat_model::types::Counts;
-use cat_ref::reference::{Ref, text_at};
 use cat_replies::line::{Piece, push_line};
 use cat_table::map::Map;
 use cat_tree::ask::child;
 use cat_tree::tree::Tree;
 use cat_types::node::Node;
+use cat_types::reference::{Ref, text_at};
 use std::alloc::{AllocError, Global};
 
 // The relations of a document.

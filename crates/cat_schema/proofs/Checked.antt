@@ -5,7 +5,7 @@ use Rattle.std.proofs.lemmas.Slice.Eq.{bytes_eq-Decides}
 use Rattle.std.specs.List.{flat_map}
 use Rattle.cat_tree.specs.Data.{Data}
 use Rattle.cat_tree.specs.Ask.{child_of}
-use Rattle.cat_ref.specs.Reference.{is_map}
+use Rattle.cat_types.specs.Reference.{is_map}
 use Rattle.cat_schema.specs.declared.form.Form.TheVariants.{Map, List as Listing, Filled}
 use Rattle.cat_schema.specs.declared.form.Wanted.{Wanted}
 use Rattle.cat_schema.specs.declared.form.Wanted.TheVariants.{Needed}

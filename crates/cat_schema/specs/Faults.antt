@@ -3,7 +3,7 @@ use Rattle.std.specs.Prelude.{ℕ, suc, List, [], ◌∷◌, ◌++◌, Bool, Opt
 use Rattle.std.specs.Fmt.{decimal}
 use Rattle.cat_tree.specs.Data.{Data, null, flag, whole, words, list, dict, Items, no_items, item, Members, no_members, member}
 use Rattle.cat_tree.specs.Ask.{child_of}
-use Rattle.cat_ref.specs.Names.{is_key}
+use Rattle.cat_types.specs.Names.{is_key}
 use Rattle.cat_schema.specs.Forms.{has_form, is_as}
 use Rattle.cat_schema.specs.declared.form.Form.{Form}
 use Rattle.cat_schema.specs.declared.form.Form.TheVariants.{List as Listing}

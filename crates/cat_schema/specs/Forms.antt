@@ -2,8 +2,8 @@
 use Rattle.std.specs.Prelude.{ℕ, List, Bool, true, false, Option, Some, None, ◌||◌, ◌==◌, not, length, is_some, bytes_eq, codes}
 use Rattle.cat_tree.specs.Data.{Data, null, flag, whole, words, list, dict}
 use Rattle.cat_tree.specs.Ask.{child_of}
-use Rattle.cat_ref.specs.Names.{is_name, is_namespace, is_tag, is_location_type}
-use Rattle.cat_ref.specs.Reference.{is_map}
+use Rattle.cat_types.specs.Names.{is_name, is_namespace, is_tag, is_location_type}
+use Rattle.cat_types.specs.Reference.{is_map}
 use Rattle.cat_schema.specs.Kinds.{kind_named}
 use Rattle.cat_schema.specs.declared.form.Form.{Form}
 use Rattle.cat_schema.specs.declared.form.Form.TheVariants.{Map, List as Listing, Words, Filled, ApiVersion, KindName, Name, NameOrEmpty, Namespace, Tag, LocationType, Presence, Link}

@@ -13,7 +13,7 @@ use Rattle.cat_schema.specs.declared.kind.Kind.TheVariants.{Component, Api, Reso
 use Rattle.cat_schema.specs.Faults.{below, unless, field, fields, part_fields, members, values, keys, member_fields, lists}
 use Rattle.cat_schema.specs.Fields.{FieldRow, field_rows, has_field}
 use Rattle.cat_schema.specs.Kinds.{kind_named, required_texts, required_lists}
-use Rattle.cat_ref.specs.Reference.{is_map, text_at}
+use Rattle.cat_types.specs.Reference.{is_map, text_at}
 
 -- the key of the metadata
 abbrev pub metadata : List ℕ

@@ -7,10 +7,10 @@ ghost use Rattle.cat_tree.specs.View.{data_of, entry_of};
 ghost use Rattle.cat_schema.specs.Faults.{fault, below, unless, field, fields, over_items, over_members, member_fault, value_fault, key_fault, members, values, keys, member_fields_at, member_fields, part_fields, lists};
 
 use crate::form::{Form, Wanted, has_form, is_as};
-use cat_ref::names::is_key;
 use cat_tree::ask::child;
 use cat_tree::text::Text;
 use cat_tree::tree::Tree;
+use cat_types::names::is_key;
 use std::alloc::{AllocError, Global};
 use std::marker::Model;
 

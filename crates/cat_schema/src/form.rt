@@ -4,9 +4,9 @@ ghost use Rattle.cat_tree.specs.View.{data_of};
 ghost use Rattle.cat_schema.specs.Forms.{has_text, has_text_form, is_link, has_form, is_as};
 
 use crate::kind::kind_named;
-use cat_ref::names::{is_location_type, is_name, is_namespace, is_tag};
 use cat_tree::ask::child;
 use cat_tree::tree::Tree;
+use cat_types::names::{is_location_type, is_name, is_namespace, is_tag};
 
 /// What a tree may be asked to be.
 #[derive(Clone, Copy, Debug, PartialEq, Eq)]

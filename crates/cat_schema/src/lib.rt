@@ -7,7 +7,7 @@
 //! that no rule names are let be.
 //!
 //! The promise: the list is exactly that of `specs/Rules.antt`, a line for each rule, and a descriptor
-//! without a breach names an entity. It stands on cat_tree and cat_ref.
+//! without a breach names an entity. It stands on cat_tree and cat_types.
 #![tactic(auto)]
 
 pub mod faults;

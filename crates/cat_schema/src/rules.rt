@@ -1,7 +1,7 @@
 //! The rules of a descriptor, one after the other.
 ghost use Rattle.std.specs.List.{list_any};
 ghost use Rattle.std.specs.Prelude.{◌≡◌, bytes_eq, ℕ, List, [], Ok, ◌++◌, map, option_map, IfOk, OnOk};
-ghost use Rattle.cat_ref.specs.Reference.{described};
+ghost use Rattle.cat_types.specs.Reference.{described};
 ghost use Rattle.cat_tree.specs.Data.{Data};
 ghost use Rattle.cat_tree.specs.View.{data_of};
 ghost use Rattle.cat_tree.specs.Ask.{child_of};

@@ -6,8 +6,8 @@ use Rattle.cat_tree.specs.Data.{Data}
 use Rattle.cat_table.specs.Places.{first_from}
 use Rattle.cat_table.specs.Rows.{without}
 use Rattle.cat_table.specs.Table.{Map, get, keys, put, puts, text_cmp}
-pub use Rattle.cat_index.specs.Index.{Set, has, Lists, term_cmp, set_at, terms_at, has_term, AreLists, AgreeBeyond, with_document}
-use Rattle.cat_search.specs.Rows.{folded}
+pub use Rattle.cat_values.specs.Index.{Set, has, Lists, term_cmp, set_at, terms_at, has_term, AreLists, AgreeBeyond, with_document}
+use Rattle.cat_values.specs.Rows.{folded}
 use Rattle.cat_search.specs.Filter.{is_accepted, matching}
 use Rattle.cat_search.specs.Terms.{Term, condition_term}
 use Rattle.cat_search.specs.declared.condition.Condition.{Condition}

@@ -11,12 +11,12 @@ use crate::folded::lower;
 use crate::postings::{Entry, Posting, first_entries, postings, split_run, with_run, without_run};
 use crate::sets::{common, union};
 use crate::terms::condition_term;
-use cat_index::cat_ref::reference::Ref;
-use cat_index::cat_types::node::Node;
-pub use cat_index::index::{Index, IndexParts, Lists, Set, Term};
 use cat_table::listing::Copied;
 use cat_table::map::Map;
 use cat_tree::text::Text;
+use cat_types::node::Node;
+use cat_types::reference::Ref;
+pub use cat_values::index::{Index, IndexParts, Lists, Set, Term};
 use std::alloc::{AllocError, Global};
 
 /// Lists at most so many of the documents that wait, in order of reference. The references under a term change once for all

@@ -12,7 +12,7 @@
 //!
 //! The promise: a filter is read as its text says, a refusal names the first condition without a key, `matches` answers
 //! exactly whether a document's rows meet the filter, without memory, and the index finds just the documents that `matches`
-//! accepts. It stands on cat_types and on the shared maps of cat_table.
+//! accepts. It stands on cat_values for the index, and on the shared maps of cat_table.
 #![tactic(auto)]
 
 pub mod condition;
@@ -28,6 +28,3 @@ pub mod sets;
 pub mod terms;
 pub mod values;
 pub mod walk;
-
-// What this crate stands on and hands on.
-pub use cat_index::{cat_ref, cat_types};

@@ -8,10 +8,10 @@ ghost use Rattle.cat_search.specs.Index.{postings, term_cmp, terms_at, with_refe
 
 use crate::sets::Set;
 use crate::terms::{Term, document_terms};
-use cat_index::cat_ref::reference::Ref;
-use cat_index::cat_types::node::Node;
 use cat_table::key::Key;
 use cat_table::map::Map;
+use cat_types::node::Node;
+use cat_types::reference::Ref;
 use std::alloc::{AllocError, Global};
 use std::cmp::Ordering;
 use std::marker::Model;

@@ -7,14 +7,14 @@ use Rattle.cat_table.specs.Table.{Text, find}
 use Rattle.cat_types.specs.declared.input.Mutation.{Mutation}
 use Rattle.cat_commands.specs.declared.line.Line.{Line}
 use Rattle.cat_commands.specs.declared.line.Line.TheVariants as asks
-use Rattle.cat_desk.specs.cat_core.specs.Answer.{stop_answer}
-use Rattle.cat_desk.specs.cat_core.specs.declared.ledger.Ledger.{Ledger}
+use Rattle.cat_core.specs.Answer.{stop_answer}
+use Rattle.cat_core.specs.declared.ledger.Ledger.{Ledger}
 use Rattle.cat_desk.specs.Acts as desk
 use Rattle.cat_desk.specs.Deed.{Deed}
 use Rattle.cat_desk.specs.Deed.Deed.{Mutate, ShelfPut, ShelfDrop, Refresh, Forget, Take, Finish, PutStitch, Settle}
 use Rattle.cat_desk.specs.declared.command.Reply.{Reply}
 use Rattle.cat_desk.specs.declared.command.Reply.TheVariants as replies
-use Rattle.cat_loop.specs.Word.{Word, IsActing, plain, memory, cut, unkept, cut_unkept}
+use Rattle.cat_io.specs.Word.{Word, IsActing, plain, memory, cut, unkept, cut_unkept}
 use Rattle.cat_model.specs.Catalogue.{Rules}
 use Rattle.cat_model.specs.Given.{given}
 use Rattle.cat_model.specs.Reply.{acted, finished, placed, taken}

@@ -2,11 +2,11 @@
 use Rattle.std.specs.Prelude.{◌≡◌, ⊤, List, ℕ}
 use Rattle.std.specs.declared.option.Option.{Option}
 use Rattle.cat_commands.specs.declared.line.Line.{Line}
-use Rattle.cat_desk.specs.cat_core.specs.declared.ledger.Ledger.{Ledger}
+use Rattle.cat_core.specs.declared.ledger.Ledger.{Ledger}
 use Rattle.cat_desk.specs.Acts.{answered, done}
 use Rattle.cat_desk.specs.Deed.{Deed}
 use Rattle.cat_desk.specs.Deed.Deed.{Mutate, ShelfPut, ShelfDrop, Refresh, Forget, ForgetNumber, Take, Finish, TakeStitch, PutStitch, Settle}
-use Rattle.cat_loop.specs.Word.{Word, IsActing}
+use Rattle.cat_io.specs.Word.{Word, IsActing}
 use Rattle.cat_model.specs.Catalogue.{Rules}
 use Rattle.cat_model.specs.Reply.{taken}
 use Rattle.cat_model.specs.Step.{refusal}

@@ -1,4 +1,2 @@
 pub mod Replies
 pub mod Carried
-pub use Rattle.cat_desk
-pub use Rattle.cat_replies

@@ -6,9 +6,9 @@ use Rattle.std.specs.Ordering.{nat_cmp}
 use Rattle.cat_table.specs.Table.{put}
 use Rattle.cat_commands.specs.declared.fault.LineFault.{LineFault}
 use Rattle.cat_commands.specs.declared.fault.LineFault.TheVariants.{LongLine, BadWord, BadArguments, Input, Reference, Query, NoMemory as LineNoMemory}
-use Rattle.cat_desk.specs.cat_core.specs.declared.fault.CoreFault.{CoreFault}
-use Rattle.cat_desk.specs.cat_core.specs.declared.fault.CoreFault.TheVariants as core
-use Rattle.cat_desk.specs.cat_core.specs.declared.fault.Cut.{Cut}
+use Rattle.cat_core.specs.declared.fault.CoreFault.{CoreFault}
+use Rattle.cat_core.specs.declared.fault.CoreFault.TheVariants as core
+use Rattle.cat_core.specs.declared.fault.Cut.{Cut}
 use Rattle.cat_desk.specs.declared.command.Asked.{Asked}
 use Rattle.cat_desk.specs.declared.command.Asked.TheVariants as asked
 use Rattle.cat_desk.specs.declared.command.Reply.{Reply}

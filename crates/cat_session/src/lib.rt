@@ -11,7 +11,3 @@ mod replies;
 mod session;
 
 pub use session::Session;
-
-// What this crate stands on and hands on.
-pub use cat_desk;
-pub use cat_replies;

@@ -6,8 +6,8 @@ ghost use Rattle.cat_transcript.specs.Session.{add_order, order_numbered};
 use crate::replies::ROOM;
 use cat_desk::command::Reply;
 use cat_model::types::{Order, StitchOrder};
-use cat_ref::reference::Ref;
 use cat_table::map::Map;
+use cat_types::reference::Ref;
 use std::alloc::{AllocError, Global};
 
 /// The first of the orders with this token.

@@ -5,7 +5,7 @@ ghost use Rattle.cat_session.specs.Replies.{IsEnded, IsLineRefusal, IsSaid, cut_
 ghost use Rattle.cat_desk.specs.declared.command.Reply.TheVariants as replies;
 
 use cat_commands::fault::LineFault;
-use cat_desk::cat_core::fault::{CoreFault, Cut};
+use cat_core::fault::{CoreFault, Cut};
 use cat_desk::command::{Asked, Reply};
 use cat_model::types::Fault;
 use cat_replies::events::{

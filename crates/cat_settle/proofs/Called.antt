@@ -1,5 +1,5 @@
 -- What a call of an event makes of a progress, and what holds after a take.
-use Rattle.std.proofs.Common.{arith, ◌≡◌, ℕ, ◌+◌, ◌^◌, ◌-◌, ◌<◌, ◌≤◌, Bool, true, false, cond, [], ◌∷◌, refl, sym, ap, subst, ◌∙◌, is_some}
+use Rattle.std.proofs.Common.{arith, ◌≡◌, ℕ, ◌+◌, ◌-◌, ◌<◌, ◌≤◌, Bool, true, false, cond, [], ◌∷◌, refl, sym, ap, subst, ◌∙◌, is_some}
 use Rattle.std.specs.declared.option.Option.{Option}
 use Rattle.std.specs.declared.option.Option.TheVariants.{None, Some}
 use Rattle.std.specs.declared.result.Result.{Result}
@@ -8,7 +8,7 @@ use Rattle.std.specs.Option.{option_and_then}
 use Rattle.cat_table.specs.Table.{get, put, same_text, text_cmp}
 use Rattle.cat_table.proofs.Tables.{text_total, text_antisymmetric, same_is, find-put_same, find-put_other}
 use Rattle.cat_links.specs.Links.{Emitted}
-use Rattle.cat_events.specs.cat_frame.specs.Linked.{AreLinked}
+use Rattle.cat_hold.specs.Linked.{AreLinked}
 use Rattle.cat_model.specs.declared.types.Fault.{Fault}
 use Rattle.cat_model.specs.declared.types.Progress.{Progress}
 use Rattle.cat_model.specs.declared.types.Record.{Record}
@@ -19,8 +19,8 @@ use Rattle.cat_model.specs.Settle.{try_event}
 use Rattle.cat_model.specs.Sound.{AreOrdered, AreSmall, Sound}
 use Rattle.cat_model.specs.Step.{Event, change, leased, refusal, step, take}
 use Rattle.cat_model.specs.Step.Event.{TakeAt}
-use Rattle.cat_events.specs.cat_frame.specs.cat_laws.proofs.Ordered.{step_ordered}
-use Rattle.cat_events.specs.cat_frame.specs.cat_laws.proofs.Steps.{run_kept, step_small}
+use Rattle.cat_model.proofs.Ordered.{step_ordered}
+use Rattle.cat_model.proofs.Steps.{run_kept, step_small}
 use Rattle.cat_events.specs.Coming.{IsSteady, came_fault, came_state}
 use Rattle.cat_events.specs.Stepped.{come_to, stepped}
 use Rattle.cat_events.specs.declared.stepped.Stepped.{Stepped}

@@ -17,12 +17,12 @@ use Rattle.cat_model.specs.Sound.{Sound}
 use Rattle.cat_model.specs.Step.{Event, step}
 use Rattle.cat_model.specs.Step.Event.{TakeAt, Finish, PutStitch}
 use Rattle.cat_events.specs.Stepped.{come_to}
-use Rattle.cat_reached.specs.cat_reach.specs.Gathered.{Gathers, IsGathered, IsWithin}
-use Rattle.cat_reached.specs.cat_reach.specs.Reach.{AreSameBeyond, AreSameInputs, has, own_refs, reached}
-use Rattle.cat_reached.specs.cat_reach.proofs.Inputs.{inputs_stay}
-use Rattle.cat_reached.specs.cat_reach.proofs.Nothing.{put_stitch_reaches, take_at_reaches}
-use Rattle.cat_reached.specs.cat_reach.proofs.Own.{finish_reaches}
-use Rattle.cat_reached.specs.cat_reach.proofs.Stepped.{inputs_unchanged, unchanged}
+use Rattle.cat_reached.specs.Gathered.{Gathers, IsGathered, IsWithin}
+use Rattle.cat_reached.specs.Reach.{AreSameBeyond, AreSameInputs, has, own_refs, reached}
+use Rattle.cat_reached.proofs.Inputs.{inputs_stay}
+use Rattle.cat_reached.proofs.Nothing.{put_stitch_reaches, take_at_reaches}
+use Rattle.cat_reached.proofs.Own.{finish_reaches}
+use Rattle.cat_reached.proofs.Stepped.{inputs_unchanged, unchanged}
 use Rattle.cat_settle.specs.Part.{moved, moved_in}
 use Rattle.cat_settle.proofs.Called.{came_step, moved_state}
 

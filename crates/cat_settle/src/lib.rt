@@ -12,7 +12,3 @@ pub mod rounds;
 pub mod settle;
 pub mod stitches;
 pub mod turn;
-
-// What this crate stands on and hands on.
-pub use cat_events;
-pub use cat_reached::cat_reach;

@@ -7,17 +7,17 @@ ghost use Rattle.cat_model.specs.declared.types.State.{State as StateValue};
 ghost use Rattle.cat_model.specs.Catalogue.{Rules, parts};
 ghost use Rattle.cat_model.specs.Settle.{counted, is_due, mark_order, order, order_with, stitch_order};
 ghost use Rattle.cat_model.specs.Step.Event.{Finish, PutStitch, TakeAt};
-ghost use Rattle.cat_events.specs.cat_frame.specs.Linked.{AreLinked, AreRecorded};
+ghost use Rattle.cat_hold.specs.Linked.{AreLinked, AreRecorded};
 ghost use Rattle.cat_settle.specs.Part.{noted};
 
-use cat_events::cat_frame::cat_hold::layers::Layers;
-use cat_events::cat_frame::cat_hold::parts::work_of;
-use cat_events::cat_frame::parts::present_parts;
+use cat_hold::layers::Layers;
+use cat_hold::linked_parts::present_parts;
+use cat_hold::parts::work_of;
 use cat_links::links::Links;
 use cat_model::types::{Fault, Lease, Order, Progress, Record, State, StitchOrder, Stop};
-use cat_ref::reference::Ref;
 use cat_table::listing::Copied;
 use cat_types::parts::Parts;
+use cat_types::reference::Ref;
 use cat_types::work::Work;
 use std::alloc::{AllocError, Global};
 

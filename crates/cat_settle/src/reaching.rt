@@ -1,13 +1,13 @@
 //! What the events of a settle reached, gathered from one to the next.
 ghost use Rattle.std.specs.Prelude.{◌≡◌, ◌++◌, [], IfOk, IfSome};
 ghost use Rattle.cat_model.specs.declared.types.State.{State as StateValue};
-ghost use Rattle.cat_reached.specs.cat_reach.specs.Gathered.{IsGathered};
+ghost use Rattle.cat_reached.specs.Gathered.{IsGathered};
 
 use cat_model::records::Records;
 use cat_model::types::State;
 use cat_reached::reached::refs_of;
-use cat_ref::reference::Ref;
 use cat_table::listing::Listing;
+use cat_types::reference::Ref;
 use std::alloc::{AllocError, Global};
 
 /// Where references are gathered, the state before an event without its records, so that its rows and holders can be looked at after the event. All

@@ -6,18 +6,18 @@ ghost use Rattle.cat_model.specs.Settle.{by_ticket, mark_order, marks_in_order, 
 ghost use Rattle.cat_model.specs.Step.Event.{PutStitch};
 ghost use Rattle.cat_events.specs.Coming.{IsSteady};
 ghost use Rattle.cat_events.specs.Stepped.{come_to};
-ghost use Rattle.cat_reached.specs.cat_reach.specs.Gathered.{IsWithin};
+ghost use Rattle.cat_reached.specs.Gathered.{IsWithin};
 ghost use Rattle.cat_settle.specs.Part.{Came, Goes, moved_in};
 
 use crate::order::{stitch_noted, stitch_order_of};
-use cat_events::cat_frame::cat_hold::layers::Layers;
 use cat_events::done::Stitched;
 use cat_events::stitch::put_stitch;
+use cat_hold::layers::Layers;
 use cat_links::links::Links;
-use cat_model::cat_marks::marks::Marks;
 use cat_model::types::{Progress, Settings, StitchOrder};
-use cat_ref::reference::Ref;
 use cat_table::listing::{Copied, Listing};
+use cat_types::reference::Ref;
+use cat_values::marks::Marks;
 use std::alloc::{AllocError, Global};
 
 // Copies of the marks.

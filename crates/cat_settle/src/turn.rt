@@ -8,19 +8,19 @@ ghost use Rattle.cat_model.specs.Sound.{AreSmall, Sound};
 ghost use Rattle.cat_model.specs.Step.Event.{Finish, TakeAt};
 ghost use Rattle.cat_events.specs.Coming.{IsSteady};
 ghost use Rattle.cat_events.specs.Stepped.{come_to, AreMoments};
-ghost use Rattle.cat_reached.specs.cat_reach.specs.Gathered.{Gathers, IsWithin};
+ghost use Rattle.cat_reached.specs.Gathered.{Gathers, IsWithin};
 ghost use Rattle.cat_settle.specs.Part.{Came, Goes, moved, moved_in};
 
 use crate::order::{due, finish_noted, lease_noted, order_of};
 use crate::reaching::{gathered, rows_before};
-use cat_events::cat_frame::cat_hold::layers::Layers;
 use cat_events::done::Done;
 use cat_events::finish::finish;
 use cat_events::lease::take_at;
+use cat_hold::layers::Layers;
 use cat_links::links::Links;
 use cat_model::types::{Order, Progress, Settings};
-use cat_ref::reference::Ref;
 use cat_table::listing::Listing;
+use cat_types::reference::Ref;
 use std::alloc::{AllocError, Global};
 
 // A record is taken, which is counted or stops the settle. The links are as before.

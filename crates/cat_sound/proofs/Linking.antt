@@ -13,7 +13,7 @@ use Rattle.cat_links.proofs.Counted.{emitted-with_emitter, sorted-with_emitter}
 use Rattle.cat_model.specs.Catalogue.{Ref, Rules, emits, output_of}
 use Rattle.cat_model.specs.declared.types.Record.{Record}
 use Rattle.cat_model.specs.declared.types.State.{State}
-use Rattle.cat_events.specs.cat_frame.specs.Linked.{AreLinked}
+use Rattle.cat_hold.specs.Linked.{AreLinked}
 
 module _ (f : Text → List Relation) where
   -- each of these emitters emits what f gives it

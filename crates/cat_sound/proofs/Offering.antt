@@ -20,7 +20,7 @@ use Rattle.cat_model.specs.declared.types.ProviderInputs.{ProviderInputs}
 use Rattle.cat_model.specs.declared.types.Record.{Record}
 use Rattle.cat_model.specs.declared.types.Row.{Row}
 use Rattle.cat_model.specs.declared.types.State.{State}
-use Rattle.cat_events.specs.cat_frame.specs.cat_laws.proofs.Replaced.{same_origin-is}
+use Rattle.cat_model.proofs.Replaced.{same_origin-is}
 use Rattle.cat_sound.specs.declared.offers.RowIndex.{RowIndex}
 use Rattle.cat_sound.specs.Candidate.{are_items_shown, are_offers_shown, is_arrival, is_offered, is_right_row, is_shown}
 use Rattle.cat_sound.specs.Indexed.{arrival_in}

@@ -7,7 +7,7 @@ use Rattle.cat_model.specs.Catalogue.{Rules, Tree, known_refs, parts}
 use Rattle.cat_model.specs.Sound.{AreBegun}
 use Rattle.cat_model.specs.Step.{reopened}
 use Rattle.cat_model.specs.declared.types.State.{State}
-use Rattle.cat_events.specs.cat_frame.specs.Linked.{AreLinked}
+use Rattle.cat_hold.specs.Linked.{AreLinked}
 use Rattle.cat_events.specs.Coming.{IsSteady}
 use Rattle.cat_sound.specs.declared.offers.RowIndex.{RowIndex}
 use Rattle.cat_sound.specs.Candidate.{is_candidate, names_of}

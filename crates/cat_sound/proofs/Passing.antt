@@ -24,7 +24,7 @@ use Rattle.cat_model.specs.declared.types.ProviderInputs.{ProviderInputs}
 use Rattle.cat_model.specs.declared.types.Record.{Record}
 use Rattle.cat_model.specs.declared.types.Row.{Row}
 use Rattle.cat_model.specs.declared.types.State.{State}
-use Rattle.cat_events.specs.cat_frame.specs.cat_laws.proofs.Replaced.{same_origin-self}
+use Rattle.cat_model.proofs.Replaced.{same_origin-self}
 use Rattle.cat_sound.specs.declared.offers.RowIndex.{RowIndex}
 use Rattle.cat_sound.specs.Candidate.{are_counters_right, are_items_shown, are_offers_shown, are_tables_sorted, is_all_right, is_arrival, is_bare, is_candidate, is_name, is_offered, is_right_holder, is_right_number, is_right_orphan, is_right_record, is_right_row, is_row_of, is_shown, names_of}
 use Rattle.cat_sound.specs.Indexed.{Names, arrival_in, row_index, with_arrival, with_names, with_rows}

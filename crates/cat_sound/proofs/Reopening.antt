@@ -16,7 +16,7 @@ use Rattle.cat_model.specs.declared.types.Lease.{Lease}
 use Rattle.cat_model.specs.declared.types.Orphan.{Orphan}
 use Rattle.cat_model.specs.declared.types.Record.{Record}
 use Rattle.cat_model.specs.declared.types.State.{State}
-use Rattle.cat_events.specs.cat_frame.specs.cat_laws.proofs.Frame.{right_at_once, unknown}
+use Rattle.cat_model.proofs.Frame.{right_at_once, unknown}
 use Rattle.cat_sound.specs.declared.offers.RowIndex.{RowIndex}
 use Rattle.cat_sound.specs.Candidate.{are_counters_right, are_items_shown, are_offers_shown, are_tables_sorted, is_all_right, is_bare, is_candidate, is_right_holder, is_right_number, is_right_orphan, is_right_record, is_right_row, names_of}
 use Rattle.cat_sound.specs.Indexed.{Names, row_index}

@@ -5,8 +5,8 @@ use Rattle.cat_table.specs.Table.{Map, tabulate, text_cmp}
 use Rattle.cat_links.specs.Links.{Emitted}
 use Rattle.cat_model.specs.Catalogue.{Ref, Rules, Tree, known_refs, parts}
 use Rattle.cat_model.specs.declared.types.State.{State}
-use Rattle.cat_events.specs.cat_frame.specs.Linked.{AreLinked, AreRecorded, linked_parts}
-use Rattle.cat_events.specs.cat_frame.proofs.Partly.{parts_are}
+use Rattle.cat_hold.specs.Linked.{AreLinked, AreRecorded, linked_parts}
+use Rattle.cat_hold.proofs.Partly.{parts_are}
 
 pub documents_are : (rules : Rules) (links : Emitted) (m : State) → AreLinked rules links m → AreRecorded m → (all : List Ref) → all ≡ known_refs m → (documents : Map Tree)
     → documents ≡ tabulate text_cmp all (λ r. option_map rules.doc (linked_parts rules links m r)) → documents ≡ tabulate text_cmp (known_refs m) (λ r. option_map rules.doc (parts rules m r))

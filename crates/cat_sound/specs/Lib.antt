@@ -1,4 +1,3 @@
 pub mod Above
 pub mod Candidate
 pub mod Indexed
-pub use Rattle.cat_events

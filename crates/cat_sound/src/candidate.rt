@@ -8,7 +8,7 @@ use crate::numbers::{Names, is_right_number, names_of};
 use crate::offers::{RowIndex, are_all_items_shown, are_offers_shown, are_right_rows, index_of};
 use cat_hold::hold::is_held;
 use cat_model::types::{Orphan, Record, State};
-use cat_ref::reference::Ref;
+use cat_types::reference::Ref;
 use std::alloc::{AllocError, Global};
 
 const MOST: u64 = 1 << 59;

@@ -2,18 +2,18 @@
 ghost use Rattle.std.specs.Prelude.{◌≡◌, IfOk, option_map};
 ghost use Rattle.cat_table.specs.Table.{tabulate, text_cmp};
 ghost use Rattle.cat_model.specs.Catalogue.{known_refs, parts};
-ghost use Rattle.cat_events.specs.cat_frame.specs.Linked.{AreLinked, AreRecorded, linked_parts};
+ghost use Rattle.cat_hold.specs.Linked.{AreLinked, AreRecorded, linked_parts};
 
-use cat_events::cat_frame::parts::parts_of;
 use cat_hold::build::{Gives, tabulated};
 use cat_hold::layers::Layers;
+use cat_hold::linked_parts::parts_of;
 use cat_hold::parts::{Present, append};
 use cat_links::links::Links;
 use cat_model::types::State;
-use cat_ref::reference::Ref;
 use cat_search::index::Index;
 use cat_table::listing::{Copied, Listing};
 use cat_types::node::Node;
+use cat_types::reference::Ref;
 use std::alloc::{AllocError, Global};
 
 // The references that have a record or are orphans, in order.

@@ -7,9 +7,9 @@ ghost use Rattle.cat_sound.specs.Above as spec_above;
 
 use cat_model::rows::IndexedRows;
 use cat_model::types::{Origin, Row, State};
-use cat_ref::reference::Ref;
 use cat_table::key::Key;
 use cat_table::map::Map;
+use cat_types::reference::Ref;
 use std::cmp::Ordering;
 
 // What is above a row: a provider, the row that holds its emitter, or nothing.

@@ -4,7 +4,7 @@
 //! its links and documents as a state of which all holds that holds between two events. Nobody has to believe what made the
 //! candidate.
 //!
-//! It stands on cat_frame, and on the definitions of cat_events. The promise: what opens is the candidate with its documents, and
+//! It stands on cat_hold, and on the definitions of cat_events. The promise: what opens is the candidate with its documents, and
 //! its links are the relations of its kept outputs. Each entry takes a few searches, and each holder two more for each step up its
 //! chain of origins; a candidate's tables should be in order, since those that aren't are searched one by one.
 #![tactic(auto)]
@@ -16,6 +16,3 @@ mod links;
 mod numbers;
 mod offers;
 pub mod reopen;
-
-// What this crate stands on and hands on.
-pub use cat_events;

@@ -2,7 +2,7 @@
 ghost use Rattle.std.specs.Prelude.{◌≡◌, IfOk, map};
 ghost use Rattle.cat_table.specs.Table.{keys};
 ghost use Rattle.cat_model.specs.Catalogue.{emits, output_of};
-ghost use Rattle.cat_events.specs.cat_frame.specs.Linked.{AreLinked};
+ghost use Rattle.cat_hold.specs.Linked.{AreLinked};
 
 use cat_hold::layers::Layers;
 use cat_hold::parts::emitted_by;

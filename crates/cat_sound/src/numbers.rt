@@ -5,10 +5,10 @@ ghost use Rattle.cat_sound.specs.Indexed.{with_names};
 
 use cat_model::records::Records;
 use cat_model::types::{Orphan, State};
-use cat_ref::reference::Ref;
 use cat_table::key::Key;
 use cat_table::listing::Copied;
 use cat_table::map::Map;
+use cat_types::reference::Ref;
 use std::alloc::{AllocError, Global};
 use std::cmp::Ordering;
 

@@ -1,7 +1,7 @@
 -- What a document has under its fields.
 use Rattle.std.proofs.Common.{◌≡◌, ℕ, Bool, true, false, List, [], ◌∷◌, refl, ap, ◌∙◌}
 use Rattle.std.specs.Prelude.{⊤, Option, None, Some, bytes_eq, option_and_then, codes}
-use Rattle.cat_types.specs.cat_ref.specs.Reference.{is_map}
+use Rattle.cat_types.specs.Reference.{is_map}
 use Rattle.cat_tree.specs.Ask.{child_of}
 use Rattle.cat_tree.specs.Data.{Data, null, flag, whole, words, list, dict}
 use Rattle.cat_tree.specs.Edit.{with_key, without_key}

@@ -1,4 +1,3 @@
 pub mod Uid
 pub mod Issues
 pub mod Document
-pub use Rattle.cat_types

@@ -1,6 +1,6 @@
 //! What holds of every document.
 ghost use Rattle.std.specs.Prelude.{◌≡◌, ◌^◌, ◌<◌, ℕ, List, true, false, Some, option_and_then, bytes_eq, codes};
-ghost use Rattle.cat_types.specs.cat_ref.specs.Reference.{is_map};
+ghost use Rattle.cat_types.specs.Reference.{is_map};
 ghost use Rattle.cat_tree.specs.Ask.{child_of};
 ghost use Rattle.cat_tree.specs.Data.{Data, words};
 ghost use Rattle.cat_tree.specs.Proper.{IsProper};

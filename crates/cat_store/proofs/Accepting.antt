@@ -20,17 +20,17 @@ use Rattle.cat_sound.proofs.Passing.{IsResting, passes}
 use Rattle.cat_tables.specs.Opened.{is_first, rows_in}
 use Rattle.cat_tables.specs.Stored.{texts_of}
 use Rattle.cat_tables.specs.Told.{IsTold}
-use Rattle.cat_breaches.specs.cat_opening.specs.Candidate.{IsCandidate}
-use Rattle.cat_breaches.specs.cat_opening.specs.Forms.{has_forms}
-use Rattle.cat_breaches.specs.cat_opening.specs.Read.{AreNoTexts}
-use Rattle.cat_breaches.specs.cat_opening.specs.Standing.{rule_of, state_of}
-use Rattle.cat_breaches.specs.cat_opening.specs.declared.types.Candidate.{Candidate}
-use Rattle.cat_renewed.specs.cat_reopened.specs.Right.{AreOfNone, AreRowsOf, MayOpen, rested}
-use Rattle.cat_renewed.specs.cat_reopened.specs.Told.{IsPlaced}
-use Rattle.cat_renewed.specs.cat_reopened.proofs.Opening.{record_at, told_again}
-use Rattle.cat_renewed.specs.cat_reopened.proofs.Rested.{again_first, again_stored, both, forms_pass, is_due_of, told_rested}
-use Rattle.cat_renewed.specs.cat_reopened.proofs.Same.{due_records}
-use Rattle.cat_renewed.specs.cat_reopened.proofs.Stores.{AreItsRows, its_rows, read_back}
+use Rattle.cat_opening.specs.Candidate.{IsCandidate}
+use Rattle.cat_opening.specs.Forms.{has_forms}
+use Rattle.cat_opening.specs.Read.{AreNoTexts}
+use Rattle.cat_opening.specs.Standing.{rule_of, state_of}
+use Rattle.cat_opening.specs.declared.types.Candidate.{Candidate}
+use Rattle.cat_renewed.specs.Right.{AreOfNone, AreRowsOf, MayOpen, rested}
+use Rattle.cat_renewed.specs.Told.{IsPlaced}
+use Rattle.cat_renewed.proofs.Opening.{record_at, told_again}
+use Rattle.cat_renewed.proofs.Rested.{again_first, again_stored, both, forms_pass, is_due_of, told_rested}
+use Rattle.cat_renewed.proofs.Same.{due_records}
+use Rattle.cat_renewed.proofs.Stores.{AreItsRows, its_rows, read_back}
 use Rattle.cat_store.specs.Tells.{is_telling}
 use Rattle.cat_store.proofs.Passes.{tells}
 

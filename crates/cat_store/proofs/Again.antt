@@ -12,7 +12,7 @@ use Rattle.cat_model.specs.Sound.{AreOrdered, IsStitched, Sound}
 use Rattle.cat_model.specs.Step.{reopened}
 use Rattle.cat_model.specs.declared.types.Record.{Record}
 use Rattle.cat_model.specs.declared.types.State.{State}
-use Rattle.cat_sound.specs.cat_events.specs.cat_frame.specs.cat_laws.proofs.Frame.{unknown}
+use Rattle.cat_model.proofs.Frame.{unknown}
 use Rattle.cat_sound.proofs.Found.{over_same}
 use Rattle.cat_tables.proofs.In.{none_some, same_some}
 

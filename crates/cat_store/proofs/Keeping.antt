@@ -3,7 +3,7 @@ use Rattle.std.proofs.Common.{◌≡◌, true, arith}
 use Rattle.std.specs.List.{list_all}
 use Rattle.cat_model.specs.Sound.{AreOffers, AreSmall}
 use Rattle.cat_model.specs.declared.types.State.{State}
-use Rattle.cat_ref.specs.Names.{is_name}
+use Rattle.cat_types.specs.Names.{is_name}
 use Rattle.cat_renewed.specs.Renewed.{IsKept}
 use Rattle.cat_table.proofs.Tables.{text_antisymmetric, text_total}
 use Rattle.cat_tables.proofs.In.{in_found, in_passes}

@@ -7,8 +7,8 @@ use Rattle.std.specs.declared.result.Result.{Result}
 use Rattle.std.specs.declared.result.Result.TheVariants.{Ok, Err}
 use Rattle.cat_breaches.specs.Difference.{PartAt}
 use Rattle.cat_keeper.specs.Store.{RowKey, Rows}
-use Rattle.cat_breaches.specs.cat_opening.specs.Candidate.{IsCandidate}
-use Rattle.cat_breaches.specs.cat_opening.specs.declared.types.Candidate.{Candidate}
+use Rattle.cat_opening.specs.Candidate.{IsCandidate}
+use Rattle.cat_opening.specs.declared.types.Candidate.{Candidate}
 use Rattle.cat_store.specs.Refused.{AreTheirs, IsDifference}
 use Rattle.cat_tables.specs.Opened.{is_first, rows_in}
 use Rattle.cat_tables.specs.Stored.{texts_of}

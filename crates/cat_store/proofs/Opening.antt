@@ -3,7 +3,7 @@ use Rattle.std.proofs.Common.{◌≡◌, true, false, sym, ap, subst, ◌∙◌,
 use Rattle.std.specs.Prelude.{IfSome}
 use Rattle.std.specs.declared.option.Option.{Option}
 use Rattle.std.specs.declared.option.Option.TheVariants.{None, Some}
-use Rattle.cat_sound.specs.cat_events.specs.Coming.{IsSteady}
+use Rattle.cat_events.specs.Coming.{IsSteady}
 use Rattle.cat_model.specs.Catalogue.{Rules}
 use Rattle.cat_model.specs.Sound.{AreBegun}
 use Rattle.cat_model.specs.Step.{reopened}

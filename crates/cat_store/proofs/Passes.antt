@@ -30,12 +30,12 @@ use Rattle.cat_rows.specs.declared.row.StoredRow.TheVariants.{Provider, Orphan a
 use Rattle.cat_tables.specs.Stored.{all_rows, emitted, is_blank, output_row, record_row, rows_of}
 use Rattle.cat_tables.specs.Told.{IsTold}
 use Rattle.cat_tables.proofs.In.{In, all_in, found_in}
-use Rattle.cat_renewed.specs.cat_reopened.specs.Told.{IsPlaced}
-use Rattle.cat_renewed.specs.cat_reopened.proofs.Narrow.{stands}
-use Rattle.cat_renewed.specs.cat_reopened.proofs.Parts.{offers_are}
-use Rattle.cat_renewed.specs.cat_reopened.proofs.Rested.{all_pass, both}
-use Rattle.cat_renewed.specs.cat_reopened.proofs.Same.{rows_are}
-use Rattle.cat_renewed.specs.cat_reopened.proofs.Views.{has_orphan, has_provider, has_record, has_tree}
+use Rattle.cat_renewed.specs.Told.{IsPlaced}
+use Rattle.cat_renewed.proofs.Narrow.{stands}
+use Rattle.cat_renewed.proofs.Parts.{offers_are}
+use Rattle.cat_renewed.proofs.Rested.{all_pass, both}
+use Rattle.cat_renewed.proofs.Same.{rows_are}
+use Rattle.cat_renewed.proofs.Views.{has_orphan, has_provider, has_record, has_tree}
 use Rattle.cat_store.specs.Narrow.{is_narrow, are_narrow, have_narrow}
 use Rattle.cat_store.specs.Tells.{is_narrow_offer, is_narrow_orphan, is_narrow_output, is_narrow_record, is_narrow_row, is_right_provider, is_telling}
 

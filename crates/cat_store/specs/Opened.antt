@@ -1,6 +1,6 @@
 -- What the rows of a store say of the state that it opens as, and what holds of that state.
 use Rattle.std.specs.Prelude.{◌≡◌}
-use Rattle.cat_sound.specs.cat_events.specs.Coming.{IsSteady}
+use Rattle.cat_events.specs.Coming.{IsSteady}
 use Rattle.cat_links.specs.Links.{Emitted}
 use Rattle.cat_model.specs.Catalogue.{Rules}
 use Rattle.cat_model.specs.Sound.{AreBegun}

@@ -6,10 +6,10 @@ use Rattle.cat_breaches.specs.First.{IsVerdict}
 use Rattle.cat_keeper.specs.Store.{RowKey, Rows}
 use Rattle.cat_keeper.specs.declared.table.Table.TheVariants.{Counters}
 use Rattle.cat_model.specs.Catalogue.{Rules}
-use Rattle.cat_breaches.specs.cat_opening.specs.Candidate.{IsCandidate}
-use Rattle.cat_breaches.specs.cat_opening.specs.Read.{AreNoTexts}
-use Rattle.cat_breaches.specs.cat_opening.specs.declared.types.Candidate.{Candidate}
-use Rattle.cat_renewed.specs.cat_reopened.specs.Right.{AreOfNone}
+use Rattle.cat_opening.specs.Candidate.{IsCandidate}
+use Rattle.cat_opening.specs.Read.{AreNoTexts}
+use Rattle.cat_opening.specs.declared.types.Candidate.{Candidate}
+use Rattle.cat_renewed.specs.Right.{AreOfNone}
 use Rattle.cat_tables.specs.Opened.{is_first, rows_in}
 use Rattle.cat_tables.specs.Stored.{texts_of}
 use Rattle.cat_store.specs.declared.open.OpenFault.{OpenFault}

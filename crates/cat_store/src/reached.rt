@@ -5,17 +5,17 @@ ghost use Rattle.cat_io.specs.Causes.{Rose};
 ghost use Rattle.cat_keeper.specs.Answers.{Are};
 ghost use Rattle.cat_keeper.specs.declared.keeper.Committed.TheVariants.{Kept};
 ghost use Rattle.cat_model.specs.Sound.{AreOffers, AreSmall};
-ghost use Rattle.cat_ref.specs.Names as names;
+ghost use Rattle.cat_types.specs.Names as names;
 ghost use Rattle.cat_renewed.specs.Renewed.{IsBeyond};
 ghost use Rattle.cat_tables.specs.Stored.{stored, texts_of};
 
 use crate::store::Store;
-use cat_differing::among::batch_among;
 use cat_keeper::keeper::{Committed, Keeper};
 use cat_model::types::State;
-use cat_ref::names::is_name;
 use cat_renewed::reached::Reached;
 use cat_renewed::renew::renewed_rows;
+use cat_tables::among::batch_among;
+use cat_types::names::is_name;
 use std::alloc::Global;
 
 // Whether each provider has a name of a provider's form, as all have that come from lines, requests and stores.

@@ -10,10 +10,10 @@ use crate::narrow::is_narrow;
 use cat_model::records::Records;
 use cat_model::rows::IndexedRows;
 use cat_model::types::{Orphan, ProviderInputs, Row, State};
-use cat_ref::reference::Ref;
 use cat_table::map::Map;
 use cat_tree::text::Text;
 use cat_types::input::Offered;
+use cat_types::reference::Ref;
 use cat_types::work::Output;
 
 // A serial has 64 bits by its type.

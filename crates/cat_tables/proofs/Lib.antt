@@ -4,3 +4,5 @@ pub mod Putting
 pub mod Sames
 pub mod Telling
 pub mod Walking
+mod Finding
+mod LeadingKeys

@@ -3,3 +3,4 @@ pub mod First
 pub mod Walk
 pub mod Told
 pub mod Opened
+pub mod Differing

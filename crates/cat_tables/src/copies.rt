@@ -7,7 +7,6 @@ ghost use Rattle.cat_tables.specs.Stored as spec;
 
 use crate::version::Version;
 use cat_model::types::{self, Orphan, ProviderInputs, Record};
-use cat_ref::reference::Ref;
 use cat_rows::row::{OrphanRule, StoredOffer, StoredOutput, StoredRow};
 use cat_table::listing::{Copied, Listing};
 use cat_table::map::Map;
@@ -16,6 +15,7 @@ use cat_tree::text::Text;
 use cat_types::input::Offered;
 use cat_types::issue::Issue;
 use cat_types::node::Node;
+use cat_types::reference::Ref;
 use cat_types::work::Output;
 use std::alloc::{AllocError, Global};
 

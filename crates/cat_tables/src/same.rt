@@ -1,12 +1,12 @@
 //! Whether rows are equal.
 ghost use Rattle.std.specs.Prelude.{◌≡◌, true};
 
-use cat_ref::reference::Ref;
 use cat_rows::row::{OrphanRule, StoredCounter, StoredOffer, StoredOutput, StoredRow};
 use cat_table::listing::Listing;
 use cat_tree::text::Text;
 use cat_types::issue::Issue;
 use cat_types::node::Node;
+use cat_types::reference::Ref;
 
 /// Whether the texts are equal.
 pub fn is_same_text(left: &str, right: &str) -> bool

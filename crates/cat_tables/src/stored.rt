@@ -9,13 +9,13 @@ use cat_keeper::table::Table;
 use cat_model::records::Records;
 use cat_model::rows::IndexedRows;
 use cat_model::types::{Origin, Orphan, OrphanRule, ProviderInputs, Row, State};
-use cat_ref::reference::Ref;
 use cat_rows::row::{StoredCounter, StoredRow};
 use cat_rows::write::{row_key, row_table};
 use cat_table::listing::Copied;
 use cat_table::map::Map;
 use cat_tree::text::Text;
 use cat_types::node::Node;
+use cat_types::reference::Ref;
 use std::alloc::{AllocError, Global};
 
 /// Rows, each under its table and its key, in order of these.

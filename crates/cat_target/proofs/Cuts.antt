@@ -2,7 +2,7 @@
 use Rattle.std.proofs.Common.{◌≡◌, ℕ, ◌+◌, ◌==◌, Bool, true, false, not, ◌&&◌, List, [], length, Option, Some, None, if◌then◌else◌, refl, ap, sym, ◌∙◌, arith}
 use Rattle.std.proofs.lemmas.List.{drop_all}
 use Rattle.std.specs.List.{before_first, after_first, position_or_len}
-use Rattle.cat_ref.specs.Names.{is_location_type}
+use Rattle.cat_types.specs.Names.{is_location_type}
 use Rattle.cat_target.specs.Base.{Base, is_colon, base_if_named, base_named}
 
 abbrev base : List ℕ → List ℕ → Base

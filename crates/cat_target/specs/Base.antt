@@ -1,7 +1,7 @@
 -- What the targets of a Location are seen from.
 use Rattle.std.specs.Prelude.{ℕ, ◌==◌, Bool, not, ◌&&◌, List, length, Option, Some, None, if◌then◌else◌}
 use Rattle.std.specs.List.{before_first, after_first}
-use Rattle.cat_ref.specs.Names.{is_location_type}
+use Rattle.cat_types.specs.Names.{is_location_type}
 use Rattle.cat_target.specs.declared.base.Base.{Base as Lent}
 
 -- the location that a Location was read from, by its type and its target

@@ -2,7 +2,7 @@
 ghost use Rattle.std.specs.Prelude.{◌≡◌, option_map};
 ghost use Rattle.cat_target.specs.Base.{as_base, base_named as the_base};
 
-use cat_ref::names::is_location_type;
+use cat_types::names::is_location_type;
 
 /// The location that a Location was read from, lent from the text that names it.
 #[derive(Clone, Copy, Debug)]

@@ -5,7 +5,7 @@
 //! which file that is: the targets of a Location are exactly those of `targets_of` in `specs/Targets.antt`, or the first
 //! fault that it gives.
 //!
-//! It stands on cat_tree for the tree of the Location, on cat_ref for the forms of location types and shelf names, and on
+//! It stands on cat_tree for the tree of the Location, on cat_types for the forms of location types and shelf names, and on
 //! `url` for targets of type `url`. What such a target is joined to is defined by `url`'s own words: its contract promises
 //! that parsing and joining give exactly `parse_url`, the basic URL parser of the URL Standard over a base or over none,
 //! and that `as_str` is exactly `serialize`, the Standard's URL serializer. The definition of a target's name cites these
@@ -17,7 +17,3 @@ pub mod base;
 pub mod location;
 pub mod resolve;
 pub mod target;
-
-// What this crate stands on and hands on.
-pub use cat_ref;
-pub use cat_ref::cat_tree;

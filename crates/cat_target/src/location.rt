@@ -4,14 +4,14 @@
 //! A field of another form than the schema asks for is passed over here; where the forms hold, none is.
 ghost use Rattle.std.specs.Prelude.{◌≡◌, ◌++◌, map, option_map, IfOk, OnOk, codes};
 ghost use Rattle.std.specs.Option.{option_copied, option_to_list};
-ghost use Rattle.cat_ref.specs.cat_tree.specs.Data.{items_of};
-ghost use Rattle.cat_ref.specs.cat_tree.specs.View.{data_of};
+ghost use Rattle.cat_tree.specs.Data.{items_of};
+ghost use Rattle.cat_tree.specs.View.{data_of};
 ghost use Rattle.cat_target.specs.Base.{as_base};
 ghost use Rattle.cat_target.specs.Location as spec;
 
 use crate::base::{Base, base_named};
-use cat_ref::cat_tree::ask::{child, grandchild};
-use cat_ref::cat_tree::tree::Tree;
+use cat_tree::ask::{child, grandchild};
+use cat_tree::tree::Tree;
 use std::alloc::{AllocError, Global};
 
 // The text of a field of `spec`.

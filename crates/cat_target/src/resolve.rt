@@ -9,8 +9,8 @@ ghost use Rattle.cat_target.specs.Base.{as_base};
 ghost use Rattle.cat_target.specs.Resolve as spec;
 
 use crate::base::Base;
-use cat_ref::cat_tree::text::Text;
-use cat_ref::names::is_shelf_name;
+use cat_tree::text::Text;
+use cat_types::names::is_shelf_name;
 use std::alloc::{AllocError, Global};
 use url::{ParseError, ParseResult, Url};
 

@@ -1,7 +1,7 @@
 //! The targets of a Location, or the fault that leaves it without any.
 ghost use Rattle.std.specs.Prelude.{◌≡◌, ◌⊎◌, map, option_map, IfOk, IfErr, OnOk, Ok, Err, true, length, ◌≤◌};
 ghost use Rattle.std.specs.List.{list_all};
-ghost use Rattle.cat_ref.specs.cat_tree.specs.View.{data_of};
+ghost use Rattle.cat_tree.specs.View.{data_of};
 ghost use Rattle.cat_target.specs.Base.{as_base};
 ghost use Rattle.cat_target.specs.Resolve.{base_url as the_url, name_of as the_name};
 ghost use Rattle.std.specs.Option.{option_copied};
@@ -10,8 +10,8 @@ ghost use Rattle.cat_target.specs.Targets as spec;
 use crate::base::Base;
 use crate::location::{base_of, is_optional, target_texts, type_of};
 use crate::resolve::{base_url, name_of};
-use cat_ref::cat_tree::text::Text;
-use cat_ref::cat_tree::tree::Tree;
+use cat_tree::text::Text;
+use cat_tree::tree::Tree;
 use std::alloc::{AllocError, AllocFailed, Global};
 use thiserror::Error;
 use url::Url;

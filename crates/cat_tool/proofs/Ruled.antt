@@ -3,16 +3,16 @@ use Rattle.std.proofs.Common.{◌≡◌, ℕ, ◌-◌, Bool, true, false, nat_lt
 use Rattle.std.specs.declared.option.Option.{Option}
 use Rattle.std.specs.declared.option.Option.TheVariants.{None, Some}
 use Rattle.std.specs.Io.KnownBytes.{Appends}
-use Rattle.cat_loop.specs.Lines.{lines as lines_of, longest_line, whole_lines}
-use Rattle.cat_loop.specs.Runs.{Answers, BreaksOff, after_lines, line_after, line_reply, replies}
-use Rattle.cat_loop.specs.Session.{Outcome, Transcript, WritesPart, WritesReplies}
-use Rattle.cat_loop.specs.Word.{Word, plain, memory, cut, unkept, cut_unkept}
-use Rattle.cat_loop.specs.declared.line_loop.SessionEnd.{SessionEnd}
-use Rattle.cat_loop.specs.declared.line_loop.SessionEnd.TheVariants.{Whole, ReadFault, WriteFault, Bound, NoMemory}
+use Rattle.cat_io.specs.Lines.{lines as lines_of, longest_line, whole_lines}
+use Rattle.cat_io.specs.Runs.{Answers, BreaksOff, after_lines, line_after, line_reply, replies}
+use Rattle.cat_io.specs.Session.{Outcome, Transcript, WritesPart, WritesReplies}
+use Rattle.cat_io.specs.Word.{Word, plain, memory, cut, unkept, cut_unkept}
+use Rattle.cat_io.specs.declared.line_loop.SessionEnd.{SessionEnd}
+use Rattle.cat_io.specs.declared.line_loop.SessionEnd.TheVariants.{Whole, ReadFault, WriteFault, Bound, NoMemory}
 use Rattle.cat_model.specs.Catalogue.{Rules}
 use Rattle.cat_model.specs.declared.types.OrphanRule.{OrphanRule}
 use Rattle.cat_model.specs.declared.types.Settings.{Settings}
-use Rattle.cat_ends.specs.Status.{HasRun}
+use Rattle.cat_wire.specs.Status.{HasRun}
 use Rattle.cat_transcript.specs.Program.{program_settings, ruled_after, ruled_reply, session_start}
 use Rattle.cat_transcript.specs.Session.{session_after, session_reply}
 use Rattle.cat_transcript.specs.declared.state.RuledSession.{RuledSession}

@@ -1,7 +1,7 @@
 -- A catalogue over the real layers may go to other threads.
 use denote.Param.Send.{IsSend, sendable}
 use denote.RattleType.{RattleType}
-use Rattle.cat_fed.specs.contracts.fed.Fed as Fed
+use Rattle.cat_desk.specs.contracts.fed.Fed as Fed
 use Rattle.cat_io.specs.declared.clock.Clock as Clock
 use Rattle.cat_keeper.specs.declared.keeper.Keeper as Keeper
 use Rattle.cat_kept_desk.specs.contracts.desk.KeptDesk as KeptDesk

@@ -4,14 +4,14 @@ use Rattle.std.specs.declared.option.Option.{Option}
 use Rattle.cat_api.proofs.Serving.{acts_at, asks_at, is_worded, tells_at, wired, IsAtZero}
 use Rattle.cat_api.specs.Answering.{AnswersBytes, Lacks}
 use Rattle.cat_api.specs.Wire.{Wired, wire_after, wire_reply}
-use Rattle.cat_sample.specs.cat_core.specs.declared.ledger.Ledger.{Ledger}
+use Rattle.cat_core.specs.declared.ledger.Ledger.{Ledger}
 use Rattle.cat_feed.specs.declared.ledger.Ledger.{Ledger as Feed}
 use Rattle.cat_model.specs.Catalogue.{Rules}
 use Rattle.cat_requests.specs.Requests.{request_of}
 use Rattle.cat_wire.specs.Runs.{Answering, Lacking, AnswersItems}
 use Rattle.cat_wire.specs.Worded.{HasWords, IsWorded}
 use Rattle.cat_wire.proofs.Wording.{outcome_worded, transcript_worded}
-use Rattle.cat_ends.specs.Status.{HasServed}
+use Rattle.cat_wire.specs.Status.{HasServed}
 
 module _ {S A T : Type 0} (old new : S) (desk : S → A) (timed : A → T) (catalogue : T → Ledger) (moment readings : T → ℕ) (feed : A → Feed) (rules : Rules) where
   abbrev answers : Answering S

@@ -1,8 +1,8 @@
 -- The program's sessions.
 use Rattle.std.specs.Prelude.{ℕ, List}
 use Rattle.cat_layers.specs.Layered.{layered}
-use Rattle.cat_loop.specs.Runs.{after_lines, line_after, line_reply}
-use Rattle.cat_loop.specs.Word.{Word}
+use Rattle.cat_io.specs.Runs.{after_lines, line_after, line_reply}
+use Rattle.cat_io.specs.Word.{Word}
 use Rattle.cat_model.specs.declared.types.OrphanRule.{OrphanRule}
 use Rattle.cat_transcript.specs.Program.{program_settings, session_start}
 use Rattle.cat_transcript.specs.Session.{session_after, session_reply}

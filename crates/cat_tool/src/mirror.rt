@@ -5,9 +5,9 @@ ghost use Rattle.cat_following.specs.declared.stop.Stop.TheVariants.{NoMemory};
 ghost use Rattle.cat_io.specs.Causes.{Rose};
 ghost use Rattle.cat_tool.specs.Mirrors.{HasMirrored, MirrorsSome, stop_status};
 
-use cat_ends::Status;
 use cat_following::{Stop, follow};
 use cat_io::{Sink, Source};
+use cat_wire::Status;
 use std::alloc::Global;
 
 // The status for each way in which a mirror stops.

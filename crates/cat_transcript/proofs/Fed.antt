@@ -19,16 +19,16 @@ use Rattle.cat_model.specs.declared.types.Record.{Record}
 use Rattle.cat_model.specs.declared.types.Settings.{Settings}
 use Rattle.cat_model.specs.declared.types.State.{State}
 use Rattle.cat_model.specs.declared.types.StitchOrder.{StitchOrder}
-use Rattle.cat_laws.proofs.Cut.{Extends, exec_extends, fits_settle}
-use Rattle.cat_laws.proofs.Plan.{exec_settle, settle_plan}
+use Rattle.cat_model.proofs.Cut.{Extends, exec_extends, fits_settle}
+use Rattle.cat_model.proofs.Plan.{exec_settle, settle_plan}
 use Rattle.cat_commands.specs.Lines.{line_of}
 use Rattle.cat_commands.specs.declared.fault.LineFault.{LineFault}
 use Rattle.cat_commands.specs.declared.fault.LineFault.TheVariants.{LongLine}
 use Rattle.cat_commands.specs.declared.line.Line.{Line}
 use Rattle.cat_commands.specs.declared.line.Line.TheVariants as asks
-use Rattle.cat_loop.specs.Lines.{longest_line}
-use Rattle.cat_loop.specs.Runs.{line_after, after_lines}
-use Rattle.cat_loop.specs.Word.{Word, plain, memory, cut, unkept, cut_unkept}
+use Rattle.cat_io.specs.Lines.{longest_line}
+use Rattle.cat_io.specs.Runs.{line_after, after_lines}
+use Rattle.cat_io.specs.Word.{Word, plain, memory, cut, unkept, cut_unkept}
 use Rattle.cat_transcript.specs.Inputs.{Inputs, accepted_at, accepted_commands, accepted_of, command_of, inputs_after, inputs_fold, inputs_of, unrefused}
 use Rattle.cat_transcript.specs.Session.{after_finish, after_place, after_reading, after_result, limit_of, order_numbered, session_after, with_stitch}
 use Rattle.cat_transcript.specs.declared.state.SessionState.{SessionState}

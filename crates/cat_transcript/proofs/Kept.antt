@@ -6,9 +6,9 @@ use Rattle.std.specs.declared.result.Result.{Result}
 use Rattle.std.specs.declared.result.Result.TheVariants.{Ok, Err}
 use Rattle.std.specs.Ordering.{nat_cmp}
 use Rattle.cat_table.specs.Table.{find}
-use Rattle.cat_loop.specs.Word.{Word, plain, memory, cut, unkept, cut_unkept}
-use Rattle.cat_loop.specs.Runs.{line_after, after_lines}
-use Rattle.cat_loop.specs.Lines.{longest_line}
+use Rattle.cat_io.specs.Word.{Word, plain, memory, cut, unkept, cut_unkept}
+use Rattle.cat_io.specs.Runs.{line_after, after_lines}
+use Rattle.cat_io.specs.Lines.{longest_line}
 use Rattle.cat_commands.specs.Lines.{line_of}
 use Rattle.cat_commands.specs.declared.line.Line.{Line}
 use Rattle.cat_commands.specs.declared.line.Line.TheVariants as asks
@@ -26,10 +26,10 @@ use Rattle.cat_model.specs.Step.Event.{Mutate, ShelfPut, ShelfDrop, Refresh, For
 use Rattle.cat_model.specs.Fresh.{facts_of, fresh_docs}
 use Rattle.cat_model.specs.Sound.{AreOrdered, Quiet, Sound}
 use Rattle.cat_model.specs.declared.types.OrphanRule.TheVariants.{Delete}
-use Rattle.cat_laws.proofs.Ordered.{start_ordered, step_ordered}
-use Rattle.cat_laws.proofs.Orphans.{just_fresh, settle_makes, settle_ordered, step_makes, still_none}
-use Rattle.cat_laws.proofs.Stands.{settle_keeps}
-use Rattle.cat_laws.proofs.Steps.{start_kept, step_kept}
+use Rattle.cat_model.proofs.Ordered.{start_ordered, step_ordered}
+use Rattle.cat_model.proofs.Orphans.{just_fresh, settle_makes, settle_ordered, step_makes, still_none}
+use Rattle.cat_model.proofs.Stands.{settle_keeps}
+use Rattle.cat_model.proofs.Steps.{start_kept, step_kept}
 use Rattle.cat_transcript.specs.Program.{session_start}
 use Rattle.cat_transcript.specs.declared.state.SessionState.{SessionState}
 use Rattle.cat_transcript.specs.Session.{after_finish, after_place, after_reading, after_result, limit_of, order_numbered, session_after, with_stitch}

@@ -12,16 +12,16 @@ use Rattle.cat_tree.specs.declared.read.TreeFault.TheVariants as tree
 use Rattle.cat_types.specs.declared.input.Mutation.{Mutation}
 use Rattle.cat_inputs.specs.declared.fault.InputFault.{InputFault}
 use Rattle.cat_inputs.specs.declared.fault.InputFault.TheVariants as input
-use Rattle.cat_commands.specs.cat_query.specs.declared.fault.QueryFault.{QueryFault}
-use Rattle.cat_commands.specs.cat_query.specs.declared.fault.QueryFault.TheVariants as query
+use Rattle.cat_query.specs.declared.fault.QueryFault.{QueryFault}
+use Rattle.cat_query.specs.declared.fault.QueryFault.TheVariants as query
 use Rattle.cat_commands.specs.Lines.{line_of}
 use Rattle.cat_commands.specs.declared.fault.LineFault.{LineFault}
 use Rattle.cat_commands.specs.declared.fault.LineFault.TheVariants.{LongLine, BadWord, BadArguments, Input, Reference, Query, NoMemory}
 use Rattle.cat_commands.specs.declared.line.Line.{Line}
 use Rattle.cat_commands.specs.declared.line.Line.TheVariants as asks
-use Rattle.cat_loop.specs.Lines.{longest_line}
-use Rattle.cat_loop.specs.Runs.{line_after, line_reply}
-use Rattle.cat_loop.specs.Word.{Word, plain, memory, cut, unkept, cut_unkept}
+use Rattle.cat_io.specs.Lines.{longest_line}
+use Rattle.cat_io.specs.Runs.{line_after, line_reply}
+use Rattle.cat_io.specs.Word.{Word, plain, memory, cut, unkept, cut_unkept}
 use Rattle.cat_model.specs.Catalogue.{Rules}
 use Rattle.cat_model.specs.Given.{given}
 use Rattle.cat_model.specs.Reply as model
@@ -43,7 +43,7 @@ use Rattle.cat_model.specs.declared.types.Settings.{Settings}
 use Rattle.cat_model.specs.declared.types.StitchOrder.{StitchOrder}
 use Rattle.cat_model.specs.declared.types.Stop.{Stop}
 use Rattle.cat_model.specs.declared.types.Stop.TheVariants.{Refused, Limit}
-use Rattle.cat_laws.proofs.Tried.{unstopped_quiet}
+use Rattle.cat_model.proofs.Tried.{unstopped_quiet}
 use Rattle.cat_replies.specs.Events as say
 use Rattle.cat_replies.specs.Faults as faults
 use Rattle.cat_transcript.proofs.Told.{cut_told, first, other_first, whole_told}

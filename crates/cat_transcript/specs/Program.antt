@@ -1,6 +1,6 @@
 -- The settings of the program, where a session starts, and a session under its rule for orphans.
 use Rattle.std.specs.Prelude.{ℕ, List, []}
-use Rattle.cat_loop.specs.Word.{Word}
+use Rattle.cat_io.specs.Word.{Word}
 use Rattle.cat_model.specs.Catalogue.{Rules}
 use Rattle.cat_model.specs.Step.{start}
 use Rattle.cat_model.specs.declared.types.OrphanRule.{OrphanRule}

@@ -2,8 +2,8 @@
 ghost use Rattle.std.specs.Prelude.{◌≡◌, ◌≤◌, List, [], Ok, ℕ};
 ghost use Rattle.cat_commands.specs.Lines.{line_of};
 ghost use Rattle.cat_commands.specs.declared.line.Line.TheVariants.{Settle};
-ghost use Rattle.cat_loop.specs.Runs.{after_lines, line_after, line_reply};
-ghost use Rattle.cat_loop.specs.Word.{Word};
+ghost use Rattle.cat_io.specs.Runs.{after_lines, line_after, line_reply};
+ghost use Rattle.cat_io.specs.Word.{Word};
 ghost use Rattle.cat_model.specs.Catalogue.{Rules};
 ghost use Rattle.cat_model.specs.Fresh.{IsFresh, facts_of, fresh_docs};
 ghost use Rattle.cat_model.specs.Sound.{Quiet, Sound};

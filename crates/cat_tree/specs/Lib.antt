@@ -8,4 +8,3 @@ pub mod Read
 pub mod Seen
 pub mod Text
 pub mod Proper
-pub use Rattle.cat_key

@@ -22,6 +22,3 @@ mod stream;
 pub mod text;
 pub mod tree;
 pub mod write;
-
-// What this crate stands on and hands on.
-pub use cat_key;

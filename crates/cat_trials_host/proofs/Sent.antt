@@ -3,14 +3,14 @@ use denote.Param.Send.{IsSend, IsSync, sendable}
 use denote.Param.SendFields.{declared_send}
 use denote.RattleType.{RattleType}
 use denote.Ref.{NamedLft}
-use Rattle.cat_host.specs.cat_shared.specs.declared.book.Named as Named
-use Rattle.cat_host.specs.cat_shared.specs.declared.timed.TimedDesk as TimedDesk
+use Rattle.cat_host.specs.declared.book.Named as Named
+use Rattle.cat_host.specs.declared.timed.TimedDesk as TimedDesk
 use Rattle.cat_host.specs.contracts.share.Share as Share
-use Rattle.cat_fed.specs.contracts.fed.Fed as Fed
+use Rattle.cat_desk.specs.contracts.fed.Fed as Fed
 use Rattle.cat_io.specs.contracts.clock.FixedClock as FixedClock
 use Rattle.cat_layers.specs.contracts.layered.Layered as Layered
 use Rattle.cat_layers.specs.contracts.layered.LayeredLayers.TheImpl as layers
-use Rattle.cat_host.specs.cat_shared.specs.contracts.shared.SharedDesk as SharedDesk
+use Rattle.cat_host.specs.contracts.shared.SharedDesk as SharedDesk
 use Rattle.cat_host.proofs.SentBooks.{book_send, fed_send, shared_send}
 use Rattle.cat_host.proofs.SentStates.{known}
 

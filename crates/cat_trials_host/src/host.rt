@@ -3,12 +3,11 @@ ghost use Rattle.std.specs.Prelude.{⊤};
 
 use cat_core::fault::CoreFault;
 use cat_desk::command::Reply;
-use cat_doors::{Ended, MemoryConn, MemoryDoors};
+use cat_doors::{Ended, Helper, MemoryConn, MemoryDoors, serve};
 use cat_host::{Answering, Part, Working};
 use cat_http::message::Message;
 use cat_io::{MemorySink, MemorySource};
 use cat_model::types::{Order, StitchOrder};
-use cat_serve::{Helper, serve};
 use cat_wire::Machine;
 use cat_work::desk::WorkDesk;
 use std::alloc::{AllocError, Global};

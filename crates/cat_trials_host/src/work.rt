@@ -2,11 +2,11 @@
 use cat_core::fault::CoreFault;
 use cat_desk::command::Reply;
 use cat_model::types::{Finished, Order, Placed, StitchOrder};
-use cat_ref::reference::{Ref, parse};
 use cat_table::listing::Listing;
 use cat_tree::tree::Tree;
 use cat_types::node::Node;
 use cat_types::parts::Parts;
+use cat_types::reference::{Ref, parse};
 use cat_types::work::Work;
 use cat_work::desk::WorkDesk;
 use cat_work::gate::{Gate, GateCall, Go};

@@ -1,7 +1,7 @@
 //! A store in a database in memory.
 use crate::kept_rows::{FIRST, SECOND, batch_of, gives, opens_as};
 use cat_keeper::keeper::{Committed, Keeper};
-use cat_keeper_sql::sql::SqlKeeper;
+use cat_keepers::sql::SqlKeeper;
 use sqlite::Connection;
 use std::test::Fail;
 

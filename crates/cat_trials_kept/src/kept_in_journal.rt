@@ -7,7 +7,7 @@ use cat_journal::keeper::JournalKeeper;
 use cat_journal::records::record;
 use cat_keeper::keeper::{Committed, Loaded, Place};
 use cat_layers::layered::Layered;
-use cat_sittings::cat_store::open::open;
+use cat_store::open::open;
 use cat_transcript::settings::INPUT_LIMIT;
 use std::alloc::{AllocError, Global};
 use std::test::Fail;

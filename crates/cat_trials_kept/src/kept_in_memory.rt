@@ -1,12 +1,12 @@
 //! A store that a keeper in memory has.
 use crate::kept_rows::{FIRST, Row, SECOND, batch_of, gives};
-use cat_ends::Status;
 use cat_io::{MemorySink, MemorySource};
 use cat_keeper::keeper::Place;
 use cat_keeper::memory::MemoryKeeper;
 use cat_keeper::rows::apply;
-use cat_sittings::cat_stored::run_stored;
+use cat_kept::run_stored;
 use cat_table::map::Map;
+use cat_wire::Status;
 use std::alloc::{AllocError, Global};
 use std::test::Fail;
 

@@ -3,7 +3,7 @@ use cat_keeper::keeper::{Keeper, Loaded, Place};
 use cat_keeper::rows::{Batch, Change, StoredRows};
 use cat_keeper::table::Table;
 use cat_layers::layered::Layered;
-use cat_sittings::cat_store::open::{Opened, open};
+use cat_store::open::{Opened, open};
 use cat_table::map::Map;
 use cat_transcript::settings::INPUT_LIMIT;
 use cat_tree::text::Text;

@@ -1,7 +1,7 @@
 //! Tests of stores and of commands over them.
 //!
 //! `kept_in_memory`, `kept_in_journal` and `kept_in_database` each open the store of `kept_rows` over one kind of keeper; `stored` has the
-//! tests of cat_stored, and `sittings` those of cat_sittings.
+//! tests of cat_kept, and `sittings` those of cat_kept.
 //!
 //! It stands on those crates and on what their answers are made of, has no code of its own but what tests need, and promises nothing.
 #![tactic(auto)]

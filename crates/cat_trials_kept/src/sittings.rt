@@ -1,10 +1,10 @@
 //! Sessions over one store, one after the other.
-use cat_ends::Status;
 use cat_io::MemorySink;
 use cat_keeper::keeper::Place;
 use cat_keeper::memory::MemoryKeeper;
-use cat_sittings::sittings;
+use cat_kept::sittings;
 use cat_table::map::Map;
+use cat_wire::Status;
 use std::alloc::{AllocError, Global};
 use std::test::Fail;
 

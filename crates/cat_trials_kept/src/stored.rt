@@ -1,13 +1,13 @@
 //! Sessions over a store, and what is there again.
-use cat_ends::Status;
 use cat_io::{MemorySink, MemorySource};
 use cat_keeper::keeper::Place;
 use cat_keeper::memory::MemoryKeeper;
 use cat_keeper::rows::StoredRows;
 use cat_keeper::table::Table;
-use cat_sittings::cat_stored::{Ran, run_stored, run_stored_connection};
+use cat_kept::{Ran, run_stored, run_stored_connection};
 use cat_table::map::Map;
 use cat_tree::text::Text;
+use cat_wire::Status;
 use itoa::Buffer;
 use std::alloc::{AllocError, Global};
 use std::test::Fail;

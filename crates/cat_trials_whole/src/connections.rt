@@ -1,6 +1,5 @@
 //! Two connections that are served at once, beside workers.
 use cat_doors::{Accepted, Connection, Doors, Listened};
-use cat_ends::Status;
 use cat_io::{FixedClock, MemorySink, MemorySource, ReadAnswer, Sink, Source, WriteAnswer};
 use cat_keeper::keeper::{Committed, Keeper, Loaded, Place};
 use cat_keeper::memory::MemoryKeeper;
@@ -8,6 +7,7 @@ use cat_keeper::rows::Batch;
 use cat_keeper::table::Table;
 use cat_table::map::Map;
 use cat_tool::run;
+use cat_wire::Status;
 use std::alloc::Global;
 use std::sync::atomic::{AtomicBool, AtomicU64, Ordering};
 use std::test::Fail;

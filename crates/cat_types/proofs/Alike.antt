@@ -5,8 +5,8 @@ use Rattle.std.specs.declared.option.Option.TheVariants.{None, Some}
 use Rattle.std.proofs.Math.ListN.{get_or}
 use Rattle.std.proofs.lemmas.Bool.Decides.{Decides-eqb}
 use mathlib.Core.Bool.{beq}
-use Rattle.cat_ref.specs.cat_tree.specs.Same.{is_same}
-use Rattle.cat_ref.specs.cat_tree.proofs.Equality.{is_same-true, is_same-itself}
+use Rattle.cat_tree.specs.Same.{is_same}
+use Rattle.cat_tree.proofs.Equality.{is_same-true, is_same-itself}
 use Rattle.cat_table.specs.Table.{Text, same_text}
 use Rattle.cat_table.proofs.Tables.{text_total, text_antisymmetric, same_is, same_self, and_first, and_second}
 use Rattle.cat_types.specs.Relations.{relation_antisymmetric, relation_total}

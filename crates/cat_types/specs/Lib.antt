@@ -3,6 +3,8 @@ pub mod Relation
 pub mod Relations
 pub mod Rising
 pub mod Same
-pub use Rattle.cat_ref
-pub use Rattle.cat_table
-pub use Rattle.cat_ref.specs.cat_tree
+pub mod Names
+pub mod Reading
+pub mod Pieces
+pub mod Reference
+pub mod Faults

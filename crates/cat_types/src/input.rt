@@ -1,8 +1,8 @@
 //! What providers give.
 use crate::node::Node;
-use cat_ref::cat_tree::text::Text;
-use cat_ref::reference::Ref;
+use crate::reference::Ref;
 use cat_table::listing::{Copied, Listing};
+use cat_tree::text::Text;
 use std::alloc::{AllocError, Global};
 
 /// A descriptor that a provider gives under a reference, with a location key where it names one.

@@ -1,6 +1,6 @@
 //! What processing an entity has to say of it, as the status items of a document show it.
-use cat_ref::cat_tree::text::Text;
 use cat_table::listing::Copied;
+use cat_tree::text::Text;
 use std::alloc::{AllocError, Global};
 
 /// How grave an issue is.

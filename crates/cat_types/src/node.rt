@@ -1,7 +1,7 @@
 //! A tree that contracts see as its data.
-use cat_ref::cat_tree::ask::same;
-use cat_ref::cat_tree::tree::Tree;
 use cat_table::listing::Copied;
+use cat_tree::ask::same;
+use cat_tree::tree::Tree;
 use std::alloc::{AllocError, Global};
 use std::marker::Model;
 use std::sync::Arc;
@@ -13,22 +13,22 @@ pub struct Node {
 }
 
 impl Model for Node {
-    ghost use Rattle.cat_ref.specs.cat_tree.specs.Data.{Data, data_code};
+    ghost use Rattle.cat_tree.specs.Data.{Data, data_code};
     ghost use Rattle.std.specs.Arc.{arc_value};
 
     ghost Value = { Data };
 
     ghost coded = { data_code };
 
-    ghost use Rattle.cat_ref.specs.cat_tree.specs.View.{data_of};
+    ghost use Rattle.cat_tree.specs.View.{data_of};
 
     ghost view = { λ a. data_of (arc_value a.tree) };
 }
 
 impl Node {
     ghost use Rattle.std.specs.Prelude.{◌≡◌, IfOk};
-    ghost use Rattle.cat_ref.specs.cat_tree.specs.Same.{is_same};
-    ghost use Rattle.cat_ref.specs.cat_tree.specs.View.{data_of};
+    ghost use Rattle.cat_tree.specs.Same.{is_same};
+    ghost use Rattle.cat_tree.specs.View.{data_of};
 
     /// The node of a tree, which is moved to where it can be shared.
     pub fn new(alloc: Global, tree: Tree) -> Result<Node, AllocError>

@@ -2,7 +2,7 @@
 ghost use Rattle.std.specs.Prelude.{◌≡◌, IfOk};
 ghost use Rattle.cat_types.specs.Relation.{kind_text};
 
-use cat_ref::reference::Ref;
+use crate::reference::Ref;
 use cat_table::listing::Copied;
 use std::alloc::{AllocError, Global};
 

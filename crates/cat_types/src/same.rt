@@ -5,11 +5,11 @@ ghost use Rattle.cat_types.specs.Same as spec;
 
 use crate::issue::{Issue, IssueName, Level};
 use crate::parts::Parts;
+use crate::reference::Ref;
 use crate::relation::Relation;
 use crate::work::{Content, Work};
-use cat_ref::cat_tree::text::Text;
-use cat_ref::reference::Ref;
 use cat_table::key::Key;
+use cat_tree::text::Text;
 use std::cmp::Ordering;
 
 /// What can be tested for equality.

@@ -3,9 +3,9 @@ use crate::entries::Entries;
 use crate::input::Offered;
 use crate::issue::Issue;
 use crate::node::Node;
-use cat_ref::cat_tree::text::Text;
-use cat_ref::reference::Ref;
+use crate::reference::Ref;
 use cat_table::listing::{Copied, Listing};
+use cat_tree::text::Text;
 use std::alloc::{AllocError, Global};
 
 /// What the shelf has under the name of a target: a text, or nothing.

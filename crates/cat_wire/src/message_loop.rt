@@ -3,7 +3,7 @@
 ghost use Rattle.std.specs.Prelude.{◌≡◌, ◌≢◌, ℕ, ◌<◌, ◌≤◌, [], List, OnOk, OnErr, IfOk, IfSome, length};
 ghost use Rattle.cat_io.specs.Causes.{Rose};
 ghost use Rattle.cat_io.specs.Source.{Reads};
-ghost use Rattle.cat_loop.specs.Session.{IsAtMost};
+ghost use Rattle.cat_io.specs.Session.{IsAtMost};
 ghost use Rattle.cat_wire.specs.Items.{HasOneList};
 ghost use Rattle.cat_wire.specs.Items.Item.{message as message_item};
 ghost use Rattle.cat_wire.specs.Runs.{AnswersItems};

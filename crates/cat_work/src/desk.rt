@@ -4,7 +4,7 @@ ghost use Rattle.cat_desk.specs.Acts.{ActsOnce};
 ghost use Rattle.cat_desk.specs.Deed.{Deed};
 ghost use Rattle.cat_desk.specs.declared.command.Reply.{Reply};
 
-use cat_desk::cat_core::catalogue::{Done, Stitched};
+use cat_core::catalogue::{Done, Stitched};
 use cat_desk::command::{Command, Reply};
 use cat_desk::desk::Desk;
 use cat_desk::timed::Timed;

@@ -6,8 +6,8 @@
 
 use cat_doors::{HostClock, TcpDoors};
 use cat_io::{StdSink, StdSource};
-use cat_keeper_sql::place::PlaceKeeper;
 use cat_keepers::files::ToolFiles;
+use cat_keepers::place::PlaceKeeper;
 use cat_tool::{Status, run};
 use std::process::ExitCode;
 use std::{env, io};

@@ -1,5 +1,5 @@
 use Rattle.std.proofs.Common.{rules, length}
-use Rattle.cat_holding.specs.Mend.{below}
+use Rattle.cat_model.specs.Mend.{below}
 use Rattle.cat_claims.proofs.Levels.{below_end, empty_is}
 use Rattle.cat_claims.proofs.cut.cut_off.Goals as goal
 

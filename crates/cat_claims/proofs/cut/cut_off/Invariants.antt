@@ -1,5 +1,5 @@
 use Rattle.std.proofs.Common.{◌≡◌, ◌++◌, length}
-use Rattle.cat_holding.specs.Mend.{below}
+use Rattle.cat_model.specs.Mend.{below}
 use Rattle.cat_claims.proofs.cut.cut_off.Given as goal
 
 -- what is left to be cut off

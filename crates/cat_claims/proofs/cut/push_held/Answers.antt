@@ -1,6 +1,6 @@
 use Rattle.std.proofs.Common.{rules}
 use Rattle.cat_model.specs.Catalogue.{row_at}
-use Rattle.cat_holding.specs.Mend.{held_by}
+use Rattle.cat_model.specs.Mend.{held_by}
 use Rattle.cat_claims.proofs.Levels.{push_more}
 use Rattle.cat_claims.proofs.cut.push_held.Goals as goal
 

@@ -1,7 +1,7 @@
 use Rattle.std.proofs.Common.{◌≡◌, ◌++◌, take}
 use Rattle.std.specs.List.{filter_map}
 use Rattle.cat_model.specs.Catalogue.{row_at}
-use Rattle.cat_holding.specs.Mend.{held_by}
+use Rattle.cat_model.specs.Mend.{held_by}
 use Rattle.cat_claims.proofs.cut.push_held.Given as goal
 
 abbrev pub invariant-loop-arrival : goal.invariant-loop-arrival

@@ -1,5 +1,5 @@
 use Rattle.std.proofs.Common.{rules, ap, ◌∙◌, ◌∷◌, []}
-use Rattle.cat_holding.specs.Mend.{left_by}
+use Rattle.cat_model.specs.Mend.{left_by}
 use Rattle.cat_claims.proofs.Left.{left_more, left_none}
 use Rattle.cat_claims.proofs.dropped.drop_all_given.Goals as goal
 

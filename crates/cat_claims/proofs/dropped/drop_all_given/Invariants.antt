@@ -1,5 +1,5 @@
 use Rattle.std.proofs.Common.{◌≡◌, take}
-use Rattle.cat_holding.specs.Mend.{left_by}
+use Rattle.cat_model.specs.Mend.{left_by}
 use Rattle.cat_claims.proofs.dropped.drop_all_given.Given as goal
 
 abbrev pub invariant-loop-reference : goal.invariant-loop-reference

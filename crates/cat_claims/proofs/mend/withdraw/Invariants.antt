@@ -1,5 +1,5 @@
 use Rattle.std.proofs.Common.{◌≡◌, take}
-use Rattle.cat_holding.specs.Mend.{released}
+use Rattle.cat_model.specs.Mend.{released}
 use Rattle.cat_claims.proofs.mend.withdraw.Given as goal
 
 abbrev pub invariant-loop-reference : goal.invariant-loop-reference

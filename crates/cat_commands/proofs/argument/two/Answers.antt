@@ -2,7 +2,7 @@ use Rattle.std.proofs.Common.{sym, ap, ◌∙◌, lit<}
 use Rattle.std.specs.Prelude.{None, Some}
 use Rattle.std.proofs.lemmas.Str.Pattern.{split_parts}
 use Rattle.cat_commands.specs.Arguments.{two, two_by}
-use Rattle.cat_ref.proofs.Readings.{lacks_from_places, cut_free, cut_at}
+use Rattle.cat_types.proofs.Readings.{lacks_from_places, cut_free, cut_at}
 use Rattle.cat_commands.proofs.argument.two.Goals as goal
 
 pub returns-in-Some : goal.returns-in-Some

@@ -1,5 +1,5 @@
 use Rattle.std.proofs.Common.{sym, subst, ◌∙◌}
-use Rattle.cat_settle.specs.cat_events.specs.Coming.{HasCome}
+use Rattle.cat_events.specs.Coming.{HasCome}
 use Rattle.cat_core.proofs.Numbers.{apart_of}
 use Rattle.cat_core.proofs.Takes.{forget_number_is}
 use Rattle.cat_core.proofs.extra.forget_number.Goals as goal

@@ -1,6 +1,6 @@
 use Rattle.std.proofs.Common.{sym, subst}
-use Rattle.cat_frame.specs.Linked.{AreLinked}
-use Rattle.cat_claims.specs.cat_holding.proofs.Changed.{sound_ready}
+use Rattle.cat_hold.specs.Linked.{AreLinked}
+use Rattle.cat_model.proofs.Changed.{sound_ready}
 use Rattle.cat_model.specs.Step.{forgotten}
 use Rattle.cat_events.proofs.Owned.{forget_owned, forget_reached}
 use Rattle.cat_events.proofs.change.forget_plan.Goals as goal

@@ -1,5 +1,5 @@
 use Rattle.std.proofs.Common.{sym, subst}
-use Rattle.cat_frame.specs.Linked.{AreLinked}
+use Rattle.cat_hold.specs.Linked.{AreLinked}
 use Rattle.cat_events.specs.Shelf.{with_shelf}
 use Rattle.cat_events.proofs.Owned.{shelf_owned, shelf_reached}
 use Rattle.cat_events.proofs.change.shelf_plan.Goals as goal

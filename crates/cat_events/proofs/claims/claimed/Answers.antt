@@ -1,8 +1,8 @@
 use Rattle.std.proofs.Common.{sym, ap, subst}
 use Rattle.cat_model.specs.declared.types.Numbered.{Numbered}
 use Rattle.cat_model.specs.Catalogue.{Rows}
-use Rattle.cat_claims.specs.cat_holding.specs.Mend.{AreOpen, IsReplaced}
-use Rattle.cat_claims.specs.cat_holding.proofs.Changed.{after_open, rows_after}
+use Rattle.cat_model.specs.Mend.{AreOpen, IsReplaced}
+use Rattle.cat_model.proofs.Changed.{after_open, rows_after}
 use Rattle.cat_events.proofs.claims.claimed.Goals as goal
 
 pub reclaimed-requires : goal.reclaimed-requires

@@ -1,10 +1,10 @@
 use Rattle.std.proofs.Common.{is_some, sym, ap, subst, ◌∙◌}
 use Rattle.std.specs.declared.option.Option.TheVariants.{Some}
-use Rattle.cat_frame.specs.Linked.{AreLinked}
-use Rattle.cat_frame.specs.declared.change.Own.{Own}
+use Rattle.cat_hold.specs.Linked.{AreLinked}
+use Rattle.cat_hold.specs.declared.change.Own.{Own}
 use Rattle.cat_model.specs.declared.types.Order.{Order}
 use Rattle.cat_model.specs.Catalogue.{frame, held}
-use Rattle.cat_claims.specs.cat_holding.proofs.Changed.{sound_ready}
+use Rattle.cat_model.proofs.Changed.{sound_ready}
 use Rattle.cat_model.specs.Step.{finished_state}
 use Rattle.cat_events.proofs.Owned.{result_owned}
 use Rattle.cat_events.proofs.finish.finish_plan.Goals as goal

@@ -1,9 +1,9 @@
 use Rattle.std.proofs.Common.{List, sym, ap, subst, ◌∙◌}
 use Rattle.cat_table.specs.Table.{Text, get}
 use Rattle.cat_claims.specs.Change.{IsChangedAmong}
-use Rattle.cat_claims.specs.cat_holding.proofs.Changed.{sound_ready}
+use Rattle.cat_model.proofs.Changed.{sound_ready}
 use Rattle.cat_model.specs.declared.types.Origin.TheVariants.{Provider}
-use Rattle.cat_frame.specs.Linked.{AreLinked}
+use Rattle.cat_hold.specs.Linked.{AreLinked}
 use Rattle.cat_model.specs.declared.types.ProviderInputs.{ProviderInputs}
 use Rattle.cat_model.specs.Catalogue.{Offers, frame}
 use Rattle.cat_model.specs.Step.{items_after, mutated_state, source_at}

@@ -9,10 +9,10 @@ use Rattle.cat_forms.proofs.Given.{given_formed}
 use Rattle.cat_forms.proofs.Ready.{IsReadLine, line_ready}
 use Rattle.cat_forms.proofs.Sessions.{IsFormedLine, lines_stand}
 use Rattle.cat_forms.proofs.Stored.{Holds, start_holds}
-use Rattle.cat_loop.specs.Runs.{after_lines}
-use Rattle.cat_loop.specs.Word.{Word}
+use Rattle.cat_io.specs.Runs.{after_lines}
+use Rattle.cat_io.specs.Word.{Word}
 use Rattle.cat_model.specs.declared.types.Settings.{Settings}
-use Rattle.cat_offers.proofs.Forms.{entity_is}
+use Rattle.cat_layers.proofs.Forms.{entity_is}
 use Rattle.cat_transcript.specs.Session.{session_after}
 use Rattle.cat_forms.proofs.law.real_forms_are_kept.Goals as goal
 

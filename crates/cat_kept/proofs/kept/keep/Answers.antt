@@ -1,5 +1,5 @@
 use Rattle.std.proofs.Common.{sym, subst}
-use Rattle.cat_kept_desk.specs.cat_store.specs.cat_renewed.specs.Renewed.{IsBeyond}
+use Rattle.cat_renewed.specs.Renewed.{IsBeyond}
 use Rattle.cat_kept.specs.About.{IsFound}
 use Rattle.cat_kept.proofs.kept.keep.Goals as goal
 

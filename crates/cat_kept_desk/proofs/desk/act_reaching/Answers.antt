@@ -1,6 +1,6 @@
 use Rattle.std.proofs.Common.{sym, ap, subst}
-use Rattle.cat_spare.specs.cat_desk.specs.Acts.{Acts}
-use Rattle.cat_spare.specs.cat_desk.specs.Deed.{deed_of}
+use Rattle.cat_desk.specs.Acts.{Acts}
+use Rattle.cat_desk.specs.Deed.{deed_of}
 use Rattle.cat_kept_desk.proofs.desk.act_reaching.Goals as goal
 
 pub returns-in-Settle-clause-acts : goal.returns-in-Settle-clause-acts

@@ -1,7 +1,7 @@
 use Rattle.std.proofs.Common.{◌≡◌, true, refl, ap, subst, ◌∙◌, inl, inr}
 use Rattle.std.specs.FinMap.Entries.{is_sorted}
 use Rattle.cat_table.specs.Table.{text_cmp}
-use Rattle.cat_store.specs.cat_tables.specs.Stored.{stored}
+use Rattle.cat_tables.specs.Stored.{stored}
 use Rattle.cat_store.proofs.Begun.{first_still}
 use Rattle.cat_kept_desk.proofs.Lost.{none_acts, one_cut}
 use Rattle.cat_kept_desk.proofs.desk.cut_short.Goals as goal

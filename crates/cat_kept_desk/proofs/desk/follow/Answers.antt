@@ -1,17 +1,17 @@
 use Rattle.std.proofs.Common.{◌≡◌, true≢false, refl, sym, ap, subst, ◌∙◌, inl}
 use Rattle.std.proofs.Math.Logic.{∥∥₁_elim}
 use Rattle.std.specs.Coded.{Coded, Coded-set, coded_list, coded×, coded_ℕ}
-use Rattle.cat_spare.specs.cat_desk.specs.cat_core.specs.declared.ledger.Ledger.{Ledger}
-use Rattle.cat_spare.specs.cat_desk.specs.Acts.{Acts}
-use Rattle.cat_spare.specs.cat_desk.specs.Deed.{deed_of}
+use Rattle.cat_core.specs.declared.ledger.Ledger.{Ledger}
+use Rattle.cat_desk.specs.Acts.{Acts}
+use Rattle.cat_desk.specs.Deed.{deed_of}
 use Rattle.cat_keeper.specs.declared.keeper.Committed.TheVariants.{Kept, Failed, NoMemory}
-use Rattle.cat_loop.specs.Word.{memory}
+use Rattle.cat_io.specs.Word.{memory}
 use Rattle.cat_keeper.specs.contracts.table.Table.{the_row as table_row}
-use Rattle.cat_store.specs.cat_rows.specs.contracts.row.StoredRow.{the_row as stored_row}
-use Rattle.cat_store.specs.cat_tables.specs.Stored.{Stored, stored}
+use Rattle.cat_rows.specs.contracts.row.StoredRow.{the_row as stored_row}
+use Rattle.cat_tables.specs.Stored.{Stored, stored}
 use Rattle.cat_kept_desk.specs.Followed.{IsFollowed}
-use Rattle.cat_spare.specs.Spare.{IsSpare}
-use Rattle.cat_spare.proofs.Again.{acts_from}
+use Rattle.cat_desk.specs.Spare.{IsSpare}
+use Rattle.cat_desk.proofs.Again.{acts_from}
 use Rattle.cat_kept_desk.proofs.Answered.{acts_kept}
 use Rattle.cat_kept_desk.proofs.Deeds.{needs_some}
 use Rattle.cat_kept_desk.proofs.Lost.{kept_counts, kept_from}

@@ -1,6 +1,6 @@
 use Rattle.std.proofs.Common.{sym, subst}
-use Rattle.cat_spare.specs.cat_desk.specs.Deed.{deed_of}
-use Rattle.cat_store.specs.cat_renewed.specs.Renewed.{IsBeyond}
+use Rattle.cat_desk.specs.Deed.{deed_of}
+use Rattle.cat_renewed.specs.Renewed.{IsBeyond}
 use Rattle.cat_kept_desk.specs.Reached.{IsFound}
 use Rattle.cat_kept_desk.proofs.desk.keep.Goals as goal
 

@@ -1,12 +1,12 @@
 use Rattle.std.proofs.Common.{◌≡◌, true, sym, ap, subst, ◌∙◌}
 use Rattle.std.specs.FinMap.Entries.{is_sorted}
 use Rattle.cat_table.specs.Table.{text_cmp}
-use Rattle.cat_spare.specs.cat_desk.specs.cat_core.specs.declared.ledger.Ledger.{Ledger}
-use Rattle.cat_spare.specs.cat_desk.specs.Acts.{Acts}
-use Rattle.cat_spare.specs.cat_desk.specs.Deed.{deed_of}
-use Rattle.cat_store.specs.cat_tables.specs.Stored.{stored}
-use Rattle.cat_spare.specs.Spare.{IsSpare}
-use Rattle.cat_spare.proofs.Again.{acts_from}
+use Rattle.cat_core.specs.declared.ledger.Ledger.{Ledger}
+use Rattle.cat_desk.specs.Acts.{Acts}
+use Rattle.cat_desk.specs.Deed.{deed_of}
+use Rattle.cat_tables.specs.Stored.{stored}
+use Rattle.cat_desk.specs.Spare.{IsSpare}
+use Rattle.cat_desk.proofs.Again.{acts_from}
 use Rattle.cat_kept_desk.proofs.Answered.{acts_kept}
 use Rattle.cat_kept_desk.proofs.Deeds.{deed_still}
 use Rattle.cat_kept_desk.proofs.desk.pass.Goals as goal

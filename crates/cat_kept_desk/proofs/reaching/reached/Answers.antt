@@ -1,5 +1,5 @@
 use Rattle.std.proofs.Common.{sym, ap, subst}
-use Rattle.cat_spare.specs.cat_desk.specs.Deed.{deed_of}
+use Rattle.cat_desk.specs.Deed.{deed_of}
 use Rattle.cat_kept_desk.specs.Reached.{IsFound}
 use Rattle.cat_kept_desk.proofs.reaching.reached.Goals as goal
 

@@ -1,7 +1,7 @@
 use Rattle.std.proofs.Common.{◌≡◌, ◌++◌, length, map}
 use denote.Text.{Utf8}
 use denote.Shadow.{shadow}
-use Rattle.cat_pages.specs.cat_search.specs.Filter.{pieces}
+use Rattle.cat_search.specs.Filter.{pieces}
 use Rattle.cat_query.proofs.parts.add_paths.Given as goal
 
 -- the paths so far and those that are left are all

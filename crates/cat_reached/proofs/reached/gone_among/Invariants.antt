@@ -1,5 +1,5 @@
 use Rattle.std.proofs.Common.{◌≡◌, take}
-use Rattle.cat_claims.specs.cat_holding.specs.Mend.{gone}
+use Rattle.cat_model.specs.Mend.{gone}
 use Rattle.cat_reached.proofs.reached.gone_among.Given as goal
 
 abbrev pub invariant-loop-reference : goal.invariant-loop-reference

@@ -1,6 +1,6 @@
 use Rattle.std.proofs.Common.{◌≡◌, take}
 use Rattle.std.specs.List.{filter}
-use Rattle.cat_reach.specs.Reach.{has_lost}
+use Rattle.cat_reached.specs.Reach.{has_lost}
 use Rattle.cat_reached.proofs.reached.lost_among.Given as goal
 
 abbrev pub invariant-loop-reference : goal.invariant-loop-reference

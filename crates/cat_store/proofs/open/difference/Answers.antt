@@ -1,7 +1,7 @@
 use Rattle.std.proofs.Common.{inl, subst}
 use Rattle.std.specs.Prelude.{MatchOption}
-use Rattle.cat_breaches.specs.cat_opening.specs.Candidate.{IsCandidate}
-use Rattle.cat_breaches.specs.cat_opening.specs.Read.{AreNoTexts}
+use Rattle.cat_opening.specs.Candidate.{IsCandidate}
+use Rattle.cat_opening.specs.Read.{AreNoTexts}
 use Rattle.cat_store.proofs.Naming.{named_after}
 use Rattle.cat_store.proofs.open.difference.Goals as goal
 

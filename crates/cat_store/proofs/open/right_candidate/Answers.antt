@@ -1,7 +1,7 @@
 use Rattle.std.proofs.Common.{subst}
 use Rattle.std.specs.Prelude.{MatchOption}
-use Rattle.cat_breaches.specs.cat_opening.specs.Candidate.{IsCandidate}
-use Rattle.cat_breaches.specs.cat_opening.specs.Read.{AreNoTexts}
+use Rattle.cat_opening.specs.Candidate.{IsCandidate}
+use Rattle.cat_opening.specs.Read.{AreNoTexts}
 use Rattle.cat_store.proofs.Accepting.{refused_unread, refused_wrong}
 use Rattle.cat_store.proofs.open.right_candidate.Goals as goal
 

@@ -1,7 +1,7 @@
 use Rattle.std.proofs.Common.{◌≡◌, ◌∙◌, ◌+◌, ◌++◌, arith, ap, sym, subst, drop, length, take}
 use Rattle.std.specs.Io.KnownBytes.{Keeps, IsAtEnd, Consumes}
 use Rattle.std.proofs.lemmas.List.{length-take-le}
-use Rattle.cat_loop.proofs.Sessions.{read_nothing}
+use Rattle.cat_io.proofs.Sessions.{read_nothing}
 use Rattle.cat_wire.specs.Connection.{SoFar, Feeds, FeedsPart}
 use Rattle.cat_wire.proofs.Connections.{Consumes_none, so_far_none, so_far_room, so_far_more, so_far_closed, so_far_part, so_far_end, so_far_fault, so_far_bound}
 use Rattle.cat_wire.proofs.message_loop.answer_all.Goals as goal

@@ -1,6 +1,6 @@
 use Rattle.std.proofs.Common.{refl, sym, ap, ◌∙◌}
-use Rattle.cat_store.specs.cat_tables.specs.Stored.{stored}
-use Rattle.cat_spare.proofs.Again.{spare_is}
+use Rattle.cat_tables.specs.Stored.{stored}
+use Rattle.cat_desk.proofs.Again.{spare_is}
 use Rattle.cat_kept_desk.proofs.Followed.{followed}
 use Rattle.cat_kept_desk.proofs.desk.KeptDesk.act_at.Goals as goal
 

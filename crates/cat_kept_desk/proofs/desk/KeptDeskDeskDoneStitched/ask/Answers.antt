@@ -1,7 +1,7 @@
 use Rattle.std.proofs.Common.{sym, subst}
-use Rattle.cat_spare.specs.cat_desk.specs.cat_core.specs.declared.ledger.Ledger.{Ledger}
+use Rattle.cat_core.specs.declared.ledger.Ledger.{Ledger}
 use Rattle.cat_kept_desk.specs.Followed.{IsFollowed}
-use Rattle.cat_spare.specs.Spare.{IsSpare}
+use Rattle.cat_desk.specs.Spare.{IsSpare}
 use Rattle.cat_kept_desk.proofs.desk.KeptDeskDeskDoneStitched.ask.Goals as goal
 
 pub invariant_of-self : goal.invariant_of-self

@@ -1,3 +1,0 @@
-pub mod Refusals
-pub mod Kept
-pub mod Places

@@ -1,0 +1,206 @@
+//! A session, and a connection, over a store.
+
+ghost use Rattle.std.specs.Prelude.{◌≡◌, ◌≢◌, ◌≤◌, ◌⊎◌, IfOk, IfSome, Option};
+ghost use Rattle.std.specs.Io.KnownBytes.{Appends};
+ghost use Rattle.cat_feed.specs.Feed.{begun};
+ghost use Rattle.cat_io.specs.Causes.{Rose};
+ghost use Rattle.cat_io.specs.Sink.{AppendsFront};
+ghost use Rattle.cat_keeper.specs.Answers.{Are, Stays};
+ghost use Rattle.cat_keeper.specs.Store.{Rows};
+ghost use Rattle.cat_layers.specs.Layered.{layered};
+ghost use Rattle.cat_model.specs.declared.types.OrphanRule.TheVariants.{Keep};
+ghost use Rattle.cat_store.specs.Opened.{IsOpening};
+ghost use Rattle.cat_store.specs.Refused.{IsNamed, IsRefused as MayRefuse};
+ghost use Rattle.cat_tables.specs.Stored.{stored, texts_of};
+ghost use Rattle.cat_transcript.specs.Program.{program_settings};
+ghost use Rattle.cat_kept.specs.Stores.{HasKept, HasKeptWire, IsLineOf, IsRefused, IsUnopenable, refused_store, session_over};
+
+use crate::{KeptService, KeptSession, kept_connection};
+use cat_api::service::Service;
+use cat_core::catalogue::Catalogue;
+use cat_io::{FixedClock, Sink, Source, write_all};
+use cat_keeper::keeper::{Keeper, Place};
+use cat_keeper::table::Table;
+use cat_kept_desk::KeptDesk;
+use cat_layers::layered::Layered;
+use cat_model::types::OrphanRule;
+use cat_session::Session;
+use cat_store::open::{OpenFault, Opened, open};
+use cat_transcript::settings::{INPUT_LIMIT, settings};
+use cat_wire::{Status, answer_lines};
+use std::alloc::{AllocError, Global};
+
+/// How a command ended, and the keeper that it was given.
+#[derive(Drop)]
+pub struct Ran<K> {
+    /// The status with which the program ends.
+    pub status: Status,
+    /// The keeper. Where it tells its tables, it holds those of the state in which a session over it ended.
+    pub keeper: K,
+}
+
+// The line that names a row of a store.
+fn refusal(alloc: Global, table: Table, key: &str) -> Result<Vec<u8>, AllocError>
+    ensures { IfOk result (λ line. line.items ≡ refused_store table key.now) }
+{
+    let mut line = String::from_str(alloc, "refused store ")?;
+    line.push_str(table.name())?;
+    line.push_str(" ")?;
+    line.push_str(key)?;
+    line.push_str("\n")?;
+    Ok(line.into_bytes())
+}
+
+// Says which row of a store is refused. The status is 6, whether the sink failed or not, or 9 where memory lacked for the line.
+fn refuse<O: Sink>(alloc: Global, table: Table, key: &str, sink: &mut O) -> Status
+    ensures refused { result.0 ≡ 6 → IsLineOf table key.now (O.written sink.old) (O.written sink.new) (O.faults sink.old) (O.faults sink.new) }
+    ensures memory { result.0 ≡ 9 → sink.new ≡ sink.old }
+    ensures later { O.faults sink.old ≤ O.faults sink.new }
+    ensures ended { (result.0 ≡ 6) ⊎ (result.0 ≡ 9) }
+{
+    match refusal(alloc, table, key) {
+        Ok(line) => {
+            let _ = write_all(sink, line.as_slice());
+            Status(6)
+        }
+        Err(_) => Status(9),
+    }
+}
+
+// The session over what was opened.
+fn session_of<K: Keeper>(alloc: Global, opened: Opened<K>) -> KeptSession<Layered, K>
+    requires opening { IsOpening layered opened.links opened.state }
+    requires rows { opened.store.rows ≡ stored opened.store.orphans opened.state }
+    requires told { Are (K.tables opened.store.place opened.store.keeper) (texts_of opened.store.rows) }
+    ensures { result ≡ record { ruled = record { orphans = opened.store.orphans; session = session_over opened.state }; place = opened.store.place; refusals = 0 } }
+{
+    let Opened {
+        state,
+        links,
+        store,
+    } = opened;
+    let orphans = store.orphans;
+    let catalogue = Catalogue::over(Layered, settings(orphans), state, links);
+    let session = Session::over(alloc, Layered, catalogue, orphans);
+    KeptSession::new(alloc, session, store)
+}
+
+// The service over what was opened, at the moment 0.
+fn service_of<'a, K: Keeper>(alloc: Global, opened: Opened<K>) -> KeptService<'a, Layered, K>
+    requires opening { IsOpening layered opened.links opened.state }
+    requires rows { opened.store.rows ≡ stored opened.store.orphans opened.state }
+    requires told { Are (K.tables opened.store.place opened.store.keeper) (texts_of opened.store.rows) }
+    ensures catalogue { result.desk.catalogue ≡ record { settings = program_settings opened.store.orphans; state = opened.state } }
+    ensures moment { result.desk.clock.moment ≡ 0 }
+    ensures feed { result.desk.feed ≡ begun 0 }
+    ensures place { result.desk.store.place ≡ opened.store.place }
+    ensures refusals { result.desk.refusals ≡ 0 }
+{
+    let Opened {
+        state,
+        links,
+        store,
+    } = opened;
+    let catalogue = Catalogue::over(Layered, settings(store.orphans), state, links);
+    let desk = KeptDesk::new(alloc, catalogue, FixedClock::at(0), 0, store);
+    Service::new(alloc, desk)
+}
+
+/// Why a store can't be opened, as a status, with the line that names a row: 5 where the keeper failed, 6 where a row is named, and 9 for want of
+/// memory. Nothing else is written.
+pub fn unopened<O: Sink>(alloc: Global, fault: &OpenFault, sink: &mut O) -> Status
+    ensures refused { result.0 ≡ 6 → (told : Option Rows) → IfSome told (λ rows. IsNamed (program_settings Keep).input_limit rows fault.now)
+        → IsRefused told (O.written sink.old) (O.written sink.new) (O.faults sink.old) (O.faults sink.new) }
+    ensures unopenable { result.0 ≡ 6 → (told : Option Rows) → IfSome told (λ rows. MayRefuse layered (program_settings Keep).input_limit rows fault.now) → IsUnopenable told }
+    ensures keeper { result.0 ≡ 5 → fault.now ≡ OpenFault.Keeper }
+    ensures unwritten { result.0 ≢ 6 → sink.new ≡ sink.old }
+    ensures later { O.faults sink.old ≤ O.faults sink.new }
+    ensures ended { (result.0 ≡ 5) ⊎ ((result.0 ≡ 6) ⊎ (result.0 ≡ 9)) }
+{
+    match fault {
+        OpenFault::Keeper => Status(5),
+        OpenFault::Row(table, key) => refuse(alloc, *table, key.as_str(), sink),
+        OpenFault::NoMemory => Status(9),
+    }
+}
+
+/// Answers the lines of the source over the catalogue that the keeper has at a place, under this rule for orphans, or
+/// else under the stored one. The status is 5 where the keeper failed as the store was opened, and 6 where a row of the store has no reading
+/// or breaks a rule; the line `refused store TABLE KEY` names the first such row. It comes only where the rows are those of no state that opens.
+pub fn run_stored<S: Source, O: Sink, K: Keeper>(
+    alloc: Global,
+    orphans: Option<OrphanRule>,
+    place: Place,
+    keeper: K,
+    source: &mut S,
+    sink: &mut O,
+) -> Ran<K>
+    ensures kept { (result.status.0 ≡ 5) ⊎ ((result.status.0 ≡ 6) ⊎ (((result.status.0 ≡ 9) × Stays (K.tables place keeper) (K.tables place result.keeper))
+        ⊎ HasKept place orphans (K.tables place keeper) result.status.0 (S.left source.old) (S.left source.new)
+        (O.written sink.old) (O.written sink.new) (λ place. K.tables place result.keeper) (K.faults result.keeper))) }
+    ensures unread { (result.status.0 ≡ 5) ⊎ (result.status.0 ≡ 6) → source.new ≡ source.old }
+    ensures same { (result.status.0 ≡ 5) ⊎ (result.status.0 ≡ 6) → Stays (K.tables place keeper) (K.tables place result.keeper) }
+    ensures keeper_fault { result.status.0 ≡ 5 → Rose (K.faults keeper) (K.faults result.keeper) }
+    ensures refused { result.status.0 ≡ 6 → IsRefused (K.tables place keeper) (O.written sink.old) (O.written sink.new) (O.faults sink.old) (O.faults sink.new) }
+    ensures unopenable { result.status.0 ≡ 6 → IsUnopenable (K.tables place keeper) }
+    ensures read_fault { result.status.0 ≡ 3 → Rose (S.faults source.old) (S.faults source.new) }
+    ensures write_fault { result.status.0 ≡ 4 → Rose (O.faults sink.old) (O.faults sink.new) }
+    ensures memory { result.status.0 ≡ 9 → (source.new ≡ source.old) × (sink.new ≡ sink.old) }
+    ensures read_later { S.faults source.old ≤ S.faults source.new }
+    ensures write_later { O.faults sink.old ≤ O.faults sink.new }
+    ensures ended { (result.status.0 ≡ 0) ⊎ ((result.status.0 ≡ 3) ⊎ ((result.status.0 ≡ 4) ⊎ ((result.status.0 ≡ 5) ⊎ ((result.status.0 ≡ 6) ⊎ ((result.status.0 ≡ 9) ⊎ (result.status.0 ≡ 10)))))) }
+{
+    match open(alloc, &Layered, keeper, place, orphans, INPUT_LIMIT) {
+        Ok(opened) => {
+            let mut session = session_of(alloc, opened);
+            let status = answer_lines(alloc, &mut session, source, sink);
+            let keeper = session.into_keeper();
+            Ran { status, keeper }
+        }
+        Err((fault, keeper)) => {
+            let status = unopened(alloc, &fault, sink);
+            Ran { status, keeper }
+        }
+    }
+}
+
+/// The same for the messages of one HTTP connection, over a catalogue whose moment is 0.
+pub fn run_stored_connection<S: Source, O: Sink, K: Keeper>(
+    alloc: Global,
+    orphans: Option<OrphanRule>,
+    place: Place,
+    keeper: K,
+    source: &mut S,
+    sink: &mut O,
+) -> Ran<K>
+    ensures kept { (result.status.0 ≡ 5) ⊎ ((result.status.0 ≡ 6) ⊎ (((result.status.0 ≡ 9) × Stays (K.tables place keeper) (K.tables place result.keeper))
+        ⊎ HasKeptWire place orphans (K.tables place keeper) result.status.0 (S.left source.old) (S.left source.new)
+        (O.written sink.old) (O.written sink.new) (λ place. K.tables place result.keeper) (K.faults result.keeper))) }
+    ensures unread { (result.status.0 ≡ 5) ⊎ (result.status.0 ≡ 6) → source.new ≡ source.old }
+    ensures same { (result.status.0 ≡ 5) ⊎ (result.status.0 ≡ 6) → Stays (K.tables place keeper) (K.tables place result.keeper) }
+    ensures keeper_fault { result.status.0 ≡ 5 → Rose (K.faults keeper) (K.faults result.keeper) }
+    ensures refused { result.status.0 ≡ 6 → IsRefused (K.tables place keeper) (O.written sink.old) (O.written sink.new) (O.faults sink.old) (O.faults sink.new) }
+    ensures unopenable { result.status.0 ≡ 6 → IsUnopenable (K.tables place keeper) }
+    ensures read_fault { result.status.0 ≡ 3 → Rose (S.faults source.old) (S.faults source.new) }
+    ensures write_fault { result.status.0 ≡ 4 → Rose (O.faults sink.old) (O.faults sink.new) }
+    ensures memory { result.status.0 ≡ 9 → (source.new ≡ source.old) × (sink.new ≡ sink.old) }
+    ensures read_later { S.faults source.old ≤ S.faults source.new }
+    ensures write_later { O.faults sink.old ≤ O.faults sink.new }
+    ensures ended { (result.status.0 ≡ 0) ⊎ ((result.status.0 ≡ 3) ⊎ ((result.status.0 ≡ 4) ⊎ ((result.status.0 ≡ 5) ⊎ ((result.status.0 ≡ 6) ⊎ ((result.status.0 ≡ 9) ⊎ (result.status.0 ≡ 10)))))) }
+{
+    match open(alloc, &Layered, keeper, place, orphans, INPUT_LIMIT) {
+        Ok(opened) => {
+            let mut service = service_of(alloc, opened);
+            let end = kept_connection(alloc, &mut service, source, sink);
+            let store = service.into_desk().into_store();
+            Ran {
+                status: Status::from(end),
+                keeper: store.keeper,
+            }
+        }
+        Err((fault, keeper)) => {
+            let status = unopened(alloc, &fault, sink);
+            Ran { status, keeper }
+        }
+    }
+}

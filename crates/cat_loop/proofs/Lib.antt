@@ -1,6 +1,0 @@
-pub mod Cutting
-pub mod Running
-pub mod Sessions
-pub mod Keeping
-pub mod Splitting
-pub mod Replying

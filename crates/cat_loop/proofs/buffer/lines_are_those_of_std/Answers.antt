@@ -1,5 +1,0 @@
-use Rattle.cat_loop.proofs.Splitting.{lines_is}
-use Rattle.cat_loop.proofs.buffer.lines_are_those_of_std.Goals as goal
-
-pub returns : goal.returns
-returns c = lines_is

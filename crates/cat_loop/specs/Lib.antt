@@ -1,4 +1,0 @@
-pub mod Word
-pub mod Lines
-pub mod Runs
-pub mod Session

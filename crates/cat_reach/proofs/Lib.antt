@@ -1,9 +1,0 @@
-pub mod Within
-pub mod Lost
-pub mod Added
-pub mod Same
-pub mod Stepped
-pub mod Mutated
-pub mod Own
-pub mod Nothing
-pub mod Inputs

@@ -1,4 +1,0 @@
-pub mod Notes
-pub mod Replay
-pub mod Book
-pub mod Shared

@@ -1,3 +1,0 @@
-pub mod Sittings
-pub use Rattle.cat_store
-pub use Rattle.cat_stored

@@ -1,2 +1,0 @@
-pub mod Spare
-pub use Rattle.cat_desk

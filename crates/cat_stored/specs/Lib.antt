@@ -1,3 +1,0 @@
-pub mod Stores
-pub use Rattle.cat_kept
-pub use Rattle.cat_kept_wire

@@ -1,0 +1,4 @@
+pub mod Waiting
+pub mod Sums
+pub mod Indexed
+pub mod Least

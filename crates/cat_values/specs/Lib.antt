@@ -1,0 +1,5 @@
+pub mod Rows
+pub mod Terms
+pub mod Index
+pub mod Bytes
+pub mod Marks
