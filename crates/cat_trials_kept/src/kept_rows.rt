@@ -2,10 +2,8 @@
 use cat_keeper::keeper::{Keeper, Loaded, Place};
 use cat_keeper::rows::{Batch, Change, StoredRows};
 use cat_keeper::table::Table;
-use cat_layers::layered::Layered;
-use cat_store::open::{Opened, open};
+use cat_store::open::Opened;
 use cat_table::map::Map;
-use cat_transcript::settings::INPUT_LIMIT;
 use cat_tree::text::Text;
 use std::alloc::{AllocError, Global};
 
@@ -96,15 +94,4 @@ pub fn gives<K: Keeper>(alloc: Global, keeper: &mut K, wanted: &[Row]) -> bool {
 pub fn keeper_of<K: Keeper>(opened: Opened<K>) -> K {
     let store = opened.store;
     store.keeper
-}
-
-/// Whether the store that a keeper has opens, and has these rows then.
-pub fn opens_as<K: Keeper + Drop>(alloc: Global, keeper: K, wanted: &[Row]) -> bool {
-    match open(alloc, &Layered, keeper, Place::Nowhere, None, INPUT_LIMIT) {
-        Ok(opened) => {
-            let mut keeper = keeper_of(opened);
-            gives(alloc, &mut keeper, wanted)
-        }
-        Err(_) => false,
-    }
 }
