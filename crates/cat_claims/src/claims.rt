@@ -4,6 +4,7 @@ ghost use Rattle.std.specs.List.{filter};
 ghost use Rattle.cat_table.specs.Table.{keys};
 ghost use Rattle.cat_claims.specs.Change.{IsMendable};
 ghost use Rattle.cat_claims.specs.Claimed.{IsClaimed};
+ghost use Rattle.cat_claims.specs.Reheld.{IsReheld};
 ghost use Rattle.cat_claims.specs.Touched.{is_fresh, is_leaving, is_moved};
 
 use crate::dropped::drop_all_given;
@@ -74,6 +75,32 @@ fn sort_out(
     Ok(changed)
 }
 
+// Who holds what once rows were replaced, and what changes for references by that.
+#[derive(Drop)]
+struct Reheld {
+    holders: Map<Ref, u64>,
+    changed: Changed,
+}
+
+// Who holds what once rows were replaced.
+fn hold_again(
+    alloc: Global,
+    replaced: &Replaced,
+    holders: &Map<Ref, u64>,
+) -> Result<Reheld, AllocError>
+    requires { IsMendable replaced.now holders.now }
+    ensures { IfOk result (λ x. IsReheld x holders.now replaced.now.numbered.rows) }
+{
+    let mut after = holders.share()?;
+    let touched = mend(alloc, replaced, &mut after)?;
+    touched.in_order();
+    let changed = sort_out(alloc, &touched, holders, &after)?;
+    Ok(Reheld {
+        holders: after,
+        changed,
+    })
+}
+
 /// The rules of holding are applied to rows of which those of one origin were replaced: what has lost its row, and all that
 /// hangs below it, is released; then the new rows and those of what was released claim, the least arrival first; and the rows
 /// of what isn't held any more go.
@@ -85,16 +112,14 @@ pub fn reclaimed(
     requires { IsMendable replaced holders.now }
     ensures { IfOk result (λ x. IsClaimed x holders.now replaced.numbered) }
 {
-    let mut after = holders.share()?;
-    let touched = mend(alloc, &replaced, &mut after)?;
-    touched.in_order();
-    let changed = sort_out(alloc, &touched, holders, &after)?;
+    let reheld = hold_again(alloc, &replaced, holders)?;
+    let changed = reheld.changed;
     let numbered = replaced.numbered;
     let mut rows = numbered.rows;
     drop_all_given(alloc, changed.leaving.as_slice(), &mut rows)?;
     Ok(Claimed {
         rows,
-        holders: after,
+        holders: reheld.holders,
         arrival: numbered.next,
         fresh: changed.fresh,
         leaving: changed.leaving,

@@ -216,6 +216,22 @@ fn has_row(
     Ok(any_from(rows, arrivals.as_slice(), origin))
 }
 
+// The row of an offer.
+fn offered_row(
+    alloc: Global,
+    origin: &Origin,
+    reference: &Ref,
+    offered: &Offered,
+) -> Result<Row, AllocError>
+    ensures { IfOk result (λ row. row ≡ record { origin = origin.now; reference = reference.now; offered = offered.now }) }
+{
+    Ok(Row {
+        origin: origin.duplicate(alloc)?,
+        reference: reference.duplicate(alloc)?,
+        offered: offered.duplicate(alloc)?,
+    })
+}
+
 // An offer that has no row gets one, with the next arrival.
 fn with_offer(
     alloc: Global,
@@ -237,11 +253,7 @@ fn with_offer(
         return Ok(numbered);
     }
     let arrival = numbered.next;
-    let row = Row {
-        origin: origin.duplicate(alloc)?,
-        reference: reference.duplicate(alloc)?,
-        offered: offered.duplicate(alloc)?,
-    };
+    let row = offered_row(alloc, origin, reference, offered)?;
     let mut rows = numbered.rows;
     rows.put(alloc, arrival, row)?;
     Ok(Numbered {

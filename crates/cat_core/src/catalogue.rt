@@ -79,11 +79,18 @@ impl<L: Layers> Model for Catalogue<L> {
     ghost invariant = { λ a. IsKept L.rules a.links a.ledger };
 }
 
-/// What a catalogue held, with what its kept outputs emitted. Its type keeps that what must hold between two events holds.
+// What a catalogue held, and what its kept outputs emitted.
 #[derive(Drop)]
-pub struct Saved<L: Layers> {
+struct Held {
     state: State,
     links: Links,
+}
+
+/// What a catalogue held, with what its kept outputs emitted, in a box, so that it is moved as one. Its type keeps that what must hold between two
+/// events holds.
+#[derive(Drop)]
+pub struct Saved<L: Layers> {
+    held: Box<Held>,
     layers: PhantomData<L>,
 }
 
@@ -96,9 +103,9 @@ impl<L: Layers> Model for Saved<L> {
 
     ghost coded = { the_row.coded };
 
-    ghost view = { λ a. a.state };
+    ghost view = { λ a. a.held.value.state };
 
-    ghost invariant = { λ a. IsSaved L.rules a.links a.state };
+    ghost invariant = { λ a. IsSaved L.rules a.held.value.links a.held.value.state };
 }
 
 impl<L: Layers> Saved<L> {
@@ -108,21 +115,22 @@ impl<L: Layers> Saved<L> {
         ensures sound { Sound L.rules self.now }
         ensures small { AreSmall self.now }
     {
-        &self.state
+        &self.held.state
     }
 
     /// The reference of a record or an orphan with this number. No memory is taken.
     pub fn ref_at(&self, number: u64) -> Option<&Ref>
         ensures { option_map (λ r. r.now) result ≡ ref_at self.now number }
     {
-        with_number(&self.state, number)
+        with_number(&self.held.state, number)
     }
 
     /// The records of what was saved. All else is let go.
     pub fn into_records(self) -> Records
         ensures { result ≡ self.records }
     {
-        let Saved { state, .. } = self;
+        let held = Box::into_inner(self.held);
+        let state = held.state;
         state.records
     }
 }
@@ -179,6 +187,22 @@ fn begun(state: State) -> Progress
     }
 }
 
+// Takes a state out, for a settle that has done nothing yet.
+fn taken_out(alloc: Global, state: &mut State) -> Progress
+    ensures { result ≡ not_begun state.old }
+{
+    let mut p = begun(empty_state(alloc));
+    mem::swap(state, &mut p.state);
+    p
+}
+
+// Puts the state of a settle where it was taken out.
+fn put_in(p: Progress, state: &mut State)
+    ensures { state.new ≡ p.state }
+{
+    *state = p.state;
+}
+
 // What a settle answers.
 fn settle_reply(came: Result<(), AllocError>, p: &Progress) -> Result<Counts, Cut>
     ensures { result ≡ settle_answer came p.now }
@@ -225,8 +249,7 @@ fn settle_state<L: Layers>(
     ensures begun { AreBegun state.new }
     ensures gathers { Gathers reached.old state.old reached.new state.new }
 {
-    let taken = mem::replace(state, empty_state(alloc));
-    let mut p = begun(taken);
+    let mut p = taken_out(alloc, state);
     let came = settled(
         alloc,
         layers,
@@ -238,7 +261,7 @@ fn settle_state<L: Layers>(
         reached,
     );
     let reply = settle_reply(came, &p);
-    *state = p.state;
+    put_in(p, state);
     reply
 }
 
@@ -264,8 +287,7 @@ fn settle_begun<L: Layers>(
     ensures steady { IsSteady L.rules links.new state.new }
     ensures begun { AreBegun state.new }
 {
-    let taken = mem::replace(state, empty_state(alloc));
-    let mut p = begun(taken);
+    let mut p = taken_out(alloc, state);
     let mut reached = None;
     let _came = settled(
         alloc,
@@ -278,7 +300,7 @@ fn settle_begun<L: Layers>(
         &mut reached,
     );
     let events = p.events;
-    *state = p.state;
+    put_in(p, state);
     events
 }
 
@@ -301,13 +323,14 @@ impl<L: Layers> Catalogue<L> {
     }
 
     /// A catalogue with this state, whose kept outputs emit these links. No memory is taken.
-    pub fn over(layers: L, settings: Settings, state: State, links: Links) -> Catalogue<L>
+    pub fn over(layers: L, settings: Settings, state: Box<State>, links: Links) -> Catalogue<L>
         requires bounds { AreSettings settings }
-        requires steady { IsSteady L.rules links state }
-        requires begun { AreBegun state }
-        ensures state { result.state ≡ state }
+        requires steady { IsSteady L.rules links state.value }
+        requires begun { AreBegun state.value }
+        ensures state { result.state ≡ state.value }
         ensures settings { result.settings ≡ settings }
     {
+        let state = Box::into_inner(state);
         Catalogue {
             layers,
             ledger: Ledger { settings, state },
@@ -320,19 +343,18 @@ impl<L: Layers> Catalogue<L> {
         ensures { IfOk result (λ saved. saved ≡ self.now.state) }
     {
         let records = self.ledger.state.records.duplicate(alloc)?;
-        self.saved_with(records)
+        self.saved_with(alloc, records)
     }
 
     /// What the catalogue holds, over a copy of its records; all else is shared. The only error is want of memory.
-    pub fn saved_with(&self, records: Records) -> Result<Saved<L>, AllocError>
+    pub fn saved_with(&self, alloc: Global, records: Records) -> Result<Saved<L>, AllocError>
         requires { records ≡ self.now.state.records }
         ensures { IfOk result (λ saved. saved ≡ self.now.state) }
     {
         let links = self.links.share()?;
         let state = self.ledger.state.with_records(records)?;
         Ok(Saved {
-            state,
-            links,
+            held: Box::new(alloc, Held { state, links })?,
             layers: PhantomData,
         })
     }
@@ -343,8 +365,8 @@ impl<L: Layers> Catalogue<L> {
         ensures saved { saved.new ≡ self.old.state }
         ensures settings { self.new.settings ≡ self.old.settings }
     {
-        mem::swap(&mut self.ledger.state, &mut saved.state);
-        mem::swap(&mut self.links, &mut saved.links);
+        mem::swap(&mut self.ledger.state, &mut saved.held.state);
+        mem::swap(&mut self.links, &mut saved.held.links);
     }
 
     /// Puts the catalogue back to what it held when it was saved. No memory is taken.

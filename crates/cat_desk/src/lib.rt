@@ -9,8 +9,8 @@
 //! is; no command and no other question changes the feed.
 //!
 //! To take back a command, what the catalogue held before it must be there, and records can't be shared. In place of a copy for each command there
-//! is one, `Spare`, to which each command that stands is done again. The spare copy, where there is one, is what the catalogue holds: what a command
-//! does from one state is the same each time, where its reply says that it was done to its end (`proofs/Again.antt`).
+//! is one spare copy (`spare.rt`), to which each command that stands is done again. The spare copy, where there is one, is what the catalogue holds:
+//! what a command does from one state is the same each time, where its reply says that it was done to its end (`proofs/Again.antt`).
 //!
 //! It stands on cat_core for the catalogue, on cat_query for questions, on cat_replies for their texts, on cat_io for the clock, and on cat_feed
 //! for the feed and the text of changes.

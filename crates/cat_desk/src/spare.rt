@@ -103,11 +103,11 @@ fn done_again<L: Layers>(
 }
 
 // What was saved as a spare copy, all but its records shared with a catalogue that holds the same records. None where memory lacks.
-fn shared<L: Layers>(catalogue: &Catalogue<L>, saved: Saved<L>) -> Option<Saved<L>>
+fn shared<L: Layers>(alloc: Global, catalogue: &Catalogue<L>, saved: Saved<L>) -> Option<Saved<L>>
     requires { saved.records ≡ catalogue.now.state.records }
     ensures { IsSpare result catalogue.now.state }
 {
-    catalogue.saved_with(saved.into_records()).ok()
+    catalogue.saved_with(alloc, saved.into_records()).ok()
 }
 
 // A copy from before a command comes to what the catalogue holds after it, and all of it but the records is then shared with the catalogue. None
@@ -129,7 +129,7 @@ fn repeated<L: Layers>(
         drop(saved);
         return None;
     }
-    shared(catalogue, saved)
+    shared(alloc, catalogue, saved)
 }
 
 /// A copy of what the catalogue held before a command is brought to what it holds after it: the same is done to the copy, unless the reply says that
@@ -149,7 +149,7 @@ pub fn brought_up<L: Layers>(
     ensures spare { IsSpare result catalogue.old.state }
 {
     if leaves_records(reply) {
-        return shared(catalogue, saved);
+        return shared(alloc, catalogue, saved);
     }
     if is_dear(command, reply) || !says_whole(reply) {
         drop(saved);

@@ -1,5 +1,5 @@
 -- The own changes of events, and what they reach.
-use Rattle.std.proofs.Common.{◌≡◌, ℕ, Bool, true, false, not, ◌&&◌, ◌||◌, List, [], ◌∷◌, ◌++◌, MatchBool, refl, sym, ap, subst, ◌∙◌, is_some, true≢false}
+use Rattle.std.proofs.Common.{Box, Global, ◌≡◌, ℕ, Bool, true, false, not, ◌&&◌, ◌||◌, List, [], ◌∷◌, ◌++◌, MatchBool, refl, sym, ap, subst, ◌∙◌, is_some, true≢false}
 use Rattle.std.specs.declared.option.Option.TheVariants.{None, Some}
 use Rattle.std.specs.declared.option.Option.{Option}
 use Rattle.std.specs.Option.{option_and_then, option_map}
@@ -184,7 +184,7 @@ apart_second r moved others e = or_false_second _ _ (sym (list_any-append (same_
 
 -- ---- forgets
 
-module _ (m : State) (r own : Ref) (same : own ≡ r) (x : Claimed) (are : IsClaimed x m.holders (replaced (Entity r) (λ q. None) [] m)) where
+module _ (m : State) (r own : Ref) (same : own ≡ r) (x : Box Claimed Global) (are : IsClaimed x.value m.holders (replaced (Entity r) (λ q. None) [] m)) where
   -- the own change of a forget
   abbrev forget_change : List Ref → OwnChange
   forget_change touched = record { how = Deleted; own = Some (record { reference = own; kept = None }); inputs = Same; claims = Some x; touched = touched }
@@ -210,9 +210,9 @@ module _ (m : State) (r own : Ref) (same : own ≡ r) (x : Claimed) (are : IsCla
         token = refl;
       }
 
-  pub forget_reached : (rules : Rules) (touched : List Ref) → Sound rules m → touched ≡ x.moved → IsReached rules (forget_change touched) m
+  pub forget_reached : (rules : Rules) (touched : List Ref) → Sound rules m → touched ≡ x.value.moved → IsReached rules (forget_change touched) m
   forget_reached rules touched sound et =
-      claims_reached rules m (replaced (Entity r) (λ q. None) [] m) x touched are
+      claims_reached rules m (replaced (Entity r) (λ q. None) [] m) x.value touched are
       (λ q e before after. forget_keeps m sound.offers sound.holders q r before after
       (ap (λ h. are_others (get m.holders q) (get h q)) (sym are.holders) ∙ (sym (are.moved q) ∙ (ap (list_any (same_text q)) (sym et) ∙ e))))
 
@@ -240,10 +240,10 @@ module _ (s : Settings) (r : Ref) (now : ℕ) (y : Record) (outcome : Outcome) (
   arrival_is (Good output issues) are = sym are.arrival
   arrival_is (Bad issues) are = sym are.arrival
 
-  finishing_owned : (how : Leaving) (x : Claimed) (touched : List Ref) → get m.orphans r ≡ None → IsClaimed x m.holders (finished_rows own.reference outcome m)
+  finishing_owned : (how : Leaving) (x : Box Claimed Global) (touched : List Ref) → get m.orphans r ≡ None → IsClaimed x.value m.holders (finished_rows own.reference outcome m)
       → IsOwned (record { how = how; own = Some own; inputs = Same; claims = Some x; touched = touched }) m result
   finishing_owned how x touched none claimed =
-      let are = subst (λ q. IsClaimed x m.holders (finished_rows q outcome m)) same claimed in
+      let are = subst (λ q. IsClaimed x.value m.holders (finished_rows q outcome m)) same claimed in
       let c = own_change none in
       record {
         change = record {
@@ -263,7 +263,7 @@ module _ (s : Settings) (r : Ref) (now : ℕ) (y : Record) (outcome : Outcome) (
       }
 
   pub finish_owned : (how : Leaving) (z : OwnChange) → get m.orphans r ≡ None → IsFinishing how own outcome m z → IsOwned z m result
-  finish_owned how z none f = subst (λ z. IsOwned z m result) (sym f.is) (finishing_owned how f.claimed (f.claimed.moved ++ offered_refs outcome) none f.are)
+  finish_owned how z none f = subst (λ z. IsOwned z m result) (sym f.is) (finishing_owned how f.claimed (f.claimed.value.moved ++ offered_refs outcome) none f.are)
 
   -- what a result doesn't offer, and no other row holds, keeps the row that holds it
   result_keeps : {rules : Rules} → Sound rules m → (q : Ref) (o : Outcome) → list_any (same_text q) (offered_refs o) ≡ false → held m.holders q ≡ true → held (rehold (finished_rows r o m).rows m.holders) q ≡ true
@@ -274,11 +274,11 @@ module _ (s : Settings) (r : Ref) (now : ℕ) (y : Record) (outcome : Outcome) (
 
   pub finish_reached : (rules : Rules) (how : Leaving) (z : OwnChange) → Sound rules m → IsFinishing how own outcome m z → IsReached rules z m
   finish_reached rules how z sound f =
-      let are = subst (λ q. IsClaimed f.claimed m.holders (finished_rows q outcome m)) same f.are in
+      let are = subst (λ q. IsClaimed f.claimed.value m.holders (finished_rows q outcome m)) same f.are in
       subst (λ z. IsReached rules z m) (sym f.is)
-      (claims_reached rules m (finished_rows r outcome m) f.claimed (f.claimed.moved ++ offered_refs outcome) are
-      (λ q e before after. result_keeps sound q outcome (apart_second q f.claimed.moved (offered_refs outcome) e) before after
-      (ap (λ h. are_others (get m.holders q) (get h q)) (sym are.holders) ∙ (sym (are.moved q) ∙ apart_first q f.claimed.moved (offered_refs outcome) e))))
+      (claims_reached rules m (finished_rows r outcome m) f.claimed.value (f.claimed.value.moved ++ offered_refs outcome) are
+      (λ q e before after. result_keeps sound q outcome (apart_second q f.claimed.value.moved (offered_refs outcome) e) before after
+      (ap (λ h. are_others (get m.holders q) (get h q)) (sym are.holders) ∙ (sym (are.moved q) ∙ apart_first q f.claimed.value.moved (offered_refs outcome) e))))
 
   -- ---- results that leave all rows
 
@@ -354,9 +354,9 @@ module _ (p : Text) (x : Given) (m : State) (items : Offers) (made : items ≡ i
   mutation_reached rules sound =
       let f = mutation_is in
       subst (λ z. IsReached rules z m) (sym f.is)
-      (claims_reached rules m (replaced (Provider p) (get (items_after x source.items)) (keys x.items) m) f.claimed (f.claimed.moved ++ keys x.items) f.are
-      (λ q e before after. mutation_keeps m sound.offers sound.holders q p x (apart_second q f.claimed.moved (keys x.items) e) before after
-      (ap (λ h. are_others (get m.holders q) (get h q)) (sym f.are.holders) ∙ (sym (f.are.moved q) ∙ apart_first q f.claimed.moved (keys x.items) e))))
+      (claims_reached rules m (replaced (Provider p) (get (items_after x source.items)) (keys x.items) m) f.claimed.value (f.claimed.value.moved ++ keys x.items) f.are
+      (λ q e before after. mutation_keeps m sound.offers sound.holders q p x (apart_second q f.claimed.value.moved (keys x.items) e) before after
+      (ap (λ h. are_others (get m.holders q) (get h q)) (sym f.are.holders) ∙ (sym (f.are.moved q) ∙ apart_first q f.claimed.value.moved (keys x.items) e))))
 
   pub mutation_how : own.how ≡ Deleted
   mutation_how = ap (λ (z : OwnChange). z.how) mutating.is

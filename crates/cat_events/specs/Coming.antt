@@ -47,12 +47,12 @@ pub record HasCome {E : Type 0} (rules : Rules) (c : Stepped) (answer : Result (
 -- a step, as what it makes of the state before it
 abbrev pub seen : Step → State → Stepped
 seen (StepRefused fault) m = Refused fault
-seen (StepActs plan) m = Acts (planned plan m)
+seen (StepActs plan) m = Acts (planned plan.value m)
 
 -- the links after a step
 abbrev pub links_in : Step → Emitted → Emitted
 links_in (StepRefused fault) links = links
-links_in (StepActs plan) links = plan.following.links.after
+links_in (StepActs plan) links = plan.value.following.links.after
 
 -- the links after a call that takes a step in; where memory is wanted they are those before it
 abbrev pub links_after : {A E : Type 0} → Result A E → Step → Emitted → Emitted
@@ -62,4 +62,4 @@ links_after (Err e) o links = links
 -- the links after a step are those of its state
 abbrev pub IsLinkedStep : Rules → Step → State → Type 0
 IsLinkedStep rules (StepRefused fault) m = ⊤
-IsLinkedStep rules (StepActs plan) m = AreLinked rules plan.following.links.after (planned plan m)
+IsLinkedStep rules (StepActs plan) m = AreLinked rules plan.value.following.links.after (planned plan.value m)

@@ -1,5 +1,7 @@
 -- The own changes of mutations and of results.
 use Rattle.std.specs.Prelude.{◌≡◌, cond, List, [], ◌++◌}
+use Rattle.std.specs.declared.alloc.Global.{Global}
+use Rattle.std.specs.declared.boxed.Box.{Box}
 use Rattle.std.specs.declared.option.Option.{Option}
 use Rattle.std.specs.declared.option.Option.TheVariants.{None, Some}
 use Rattle.cat_table.specs.Table.{Text, get, keys, put, text_cmp}
@@ -22,14 +24,14 @@ use Rattle.cat_events.specs.declared.plan.OwnChange.{OwnChange}
 
 -- the own change of a mutation after which a provider has these items: its inputs are put and its rows replaced, and what it gives or another row holds is touched
 pub record IsMutating (p : Text) (x : Given) (items : Offers) (m : State) (own : OwnChange) : Type 0 where
-  pub claimed : Claimed
-  pub are : IsClaimed claimed m.holders (replaced (Provider p) (get items) (keys x.items) m)
+  pub claimed : Box Claimed Global
+  pub are : IsClaimed claimed.value m.holders (replaced (Provider p) (get items) (keys x.items) m)
   pub is : own ≡ record {
     how = Deleted;
     own = None;
     inputs = Providers (put text_cmp p (record { serial = x.serial; items = items }) m.providers);
     claims = Some claimed;
-    touched = claimed.moved ++ keys x.items;
+    touched = claimed.value.moved ++ keys x.items;
   }
 
 -- the references that a result offers: those of a good one's offers
@@ -39,9 +41,9 @@ offered_refs (Bad issues) = []
 
 -- the own change of a result that replaces rows: what it offers or another row holds is touched
 pub record IsFinishing (how : Leaving) (own : Own) (outcome : Outcome) (m : State) (x : OwnChange) : Type 0 where
-  pub claimed : Claimed
-  pub are : IsClaimed claimed m.holders (finished_rows own.reference outcome m)
-  pub is : x ≡ record { how = how; own = Some own; inputs = Same; claims = Some claimed; touched = claimed.moved ++ offered_refs outcome }
+  pub claimed : Box Claimed Global
+  pub are : IsClaimed claimed.value m.holders (finished_rows own.reference outcome m)
+  pub is : x ≡ record { how = how; own = Some own; inputs = Same; claims = Some claimed; touched = claimed.value.moved ++ offered_refs outcome }
 
 -- the references that a record's kept output offers, and these
 abbrev pub offered_or : Option Record → List Ref → List Ref

@@ -1,5 +1,7 @@
 -- What an event plans, and what the plan makes of a state.
 use Rattle.std.specs.Prelude.{◌≡◌, ℕ, List, []}
+use Rattle.std.specs.declared.alloc.Global.{Global}
+use Rattle.std.specs.declared.boxed.Box.{Box}
 use Rattle.std.specs.declared.option.Option.{Option}
 use Rattle.std.specs.declared.option.Option.TheVariants.{None, Some}
 use Rattle.cat_table.specs.Table.{Map}
@@ -33,29 +35,29 @@ shelf_after (Providers after) shelf = shelf
 shelf_after (ShelfInputs after) shelf = after
 
 -- the rows after an event
-abbrev pub rows_after : Option Claimed → Rows → Rows
+abbrev pub rows_after : Option (Box Claimed Global) → Rows → Rows
 rows_after None rows = rows
-rows_after (Some x) rows = x.rows
+rows_after (Some x) rows = x.value.rows
 
 -- the holders after an event
-abbrev pub holders_after : Option Claimed → Holders → Holders
+abbrev pub holders_after : Option (Box Claimed Global) → Holders → Holders
 holders_after None holders = holders
-holders_after (Some x) holders = x.holders
+holders_after (Some x) holders = x.value.holders
 
 -- the next arrival after an event
-abbrev pub arrival_after : Option Claimed → ℕ → ℕ
+abbrev pub arrival_after : Option (Box Claimed Global) → ℕ → ℕ
 arrival_after None arrival = arrival
-arrival_after (Some x) arrival = x.arrival
+arrival_after (Some x) arrival = x.value.arrival
 
 -- the references that an event makes newly held
-abbrev pub fresh_of : Option Claimed → List Ref
+abbrev pub fresh_of : Option (Box Claimed Global) → List Ref
 fresh_of None = []
-fresh_of (Some x) = x.fresh
+fresh_of (Some x) = x.value.fresh
 
 -- the references that an event makes no longer held
-abbrev pub leaving_of : Option Claimed → List Ref
+abbrev pub leaving_of : Option (Box Claimed Global) → List Ref
 leaving_of None = []
-leaving_of (Some x) = x.leaving
+leaving_of (Some x) = x.value.leaving
 
 -- ---- an event's own change
 
@@ -77,7 +79,7 @@ pub record IsOwned (x : OwnChange) (m n : State) : Type 0 where
 -- ---- what a plan makes of a state
 
 -- a state with the inputs and the claims of a plan
-abbrev pub given_by : Inputs → Option Claimed → State → State
+abbrev pub given_by : Inputs → Option (Box Claimed Global) → State → State
 given_by inputs claims m =
     record m {
       providers = providers_after inputs m.providers;

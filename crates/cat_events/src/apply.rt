@@ -106,7 +106,7 @@ fn amend_records(
 }
 
 // The inputs and the claims of a plan are taken in. Takes no memory.
-fn take_given(inputs: Inputs, claims: Option<Claimed>, state: &mut State)
+fn take_given(inputs: Inputs, claims: Option<Box<Claimed>>, state: &mut State)
     ensures { state.new ≡ given_by inputs claims state.old }
 {
     match inputs {
@@ -118,12 +118,13 @@ fn take_given(inputs: Inputs, claims: Option<Claimed>, state: &mut State)
 }
 
 // The claims of a plan are taken in. Takes no memory.
-fn take_claims(claims: Option<Claimed>, state: &mut State)
+fn take_claims(claims: Option<Box<Claimed>>, state: &mut State)
     ensures { state.new ≡ given_by Inputs.Same claims state.old }
 {
     match claims {
         None => {}
         Some(claimed) => {
+            let claimed = Box::into_inner(claimed);
             state.rows = claimed.rows;
             state.holders = claimed.holders;
             state.arrival = claimed.arrival;

@@ -154,11 +154,11 @@ fn shelf_plan<L: Layers>(
     links: &Links,
     name: &Text,
     shelf: Map<Text, Text>,
-) -> Result<Plan, AllocError>
+) -> Result<Box<Plan>, AllocError>
     requires steady { IsSteady L.rules links.now m.now }
     requires one { DifferAt name.now m.now.shelf shelf }
-    ensures state { IfOk result (λ x. planned x m.now ≡ frame L.rules Deleted m.now (with_shelf shelf m.now)) }
-    ensures linked { IfOk result (λ x. AreLinked L.rules x.following.links.after (planned x m.now)) }
+    ensures state { IfOk result (λ x. planned x.value m.now ≡ frame L.rules Deleted m.now (with_shelf shelf m.now)) }
+    ensures linked { IfOk result (λ x. AreLinked L.rules x.value.following.links.after (planned x.value m.now)) }
 {
     let touched = readers(alloc, layers, m, &shelf, name)?;
     let own = OwnChange {
@@ -236,10 +236,10 @@ fn forget_plan<L: Layers>(
     reference: &Ref,
     m: &State,
     links: &Links,
-) -> Result<Plan, AllocError>
+) -> Result<Box<Plan>, AllocError>
     requires { IsSteady L.rules links.now m.now }
-    ensures state { IfOk result (λ x. planned x m.now ≡ frame L.rules Deleted m.now (forgotten reference.now m.now)) }
-    ensures linked { IfOk result (λ x. AreLinked L.rules x.following.links.after (planned x m.now)) }
+    ensures state { IfOk result (λ x. planned x.value m.now ≡ frame L.rules Deleted m.now (forgotten reference.now m.now)) }
+    ensures linked { IfOk result (λ x. AreLinked L.rules x.value.following.links.after (planned x.value m.now)) }
 {
     let claimed = claimed_by_entity(alloc, reference, &Nothing, &[], m)?;
     let touched = claimed.moved.duplicate(alloc)?;

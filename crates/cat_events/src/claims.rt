@@ -24,7 +24,7 @@ use cat_types::reference::Ref;
 use std::alloc::{AllocError, Global};
 
 /// Who holds what once this origin offers just these, where outside of the changed references it offers what it did, and what is new
-/// is numbered in the given order.
+/// is numbered in the given order. It is handed on in a box, so that it is moved as one.
 pub fn claimed<O: Offering>(
     alloc: Global,
     origin: &Origin,
@@ -32,16 +32,16 @@ pub fn claimed<O: Offering>(
     order: &[Ref],
     changed: &[Ref],
     m: &State,
-) -> Result<Claimed, AllocError>
+) -> Result<Box<Claimed>, AllocError>
     requires small { m.now.arrival ≤ 2 ^ 59 }
     requires ready { IsReady m.now }
     requires changed { IsChangedAmong origin.now (O.offers offers.now) changed.now m.now.rows }
     requires open { (r : RefValue) (x : OfferedValue) → O.offers offers.now r ≡ Some x → may_offer m.now.holders origin.now ≡ true }
-    ensures { IfOk result (λ x. IsClaimed x m.now.holders (replaced origin.now (O.offers offers.now) order.now m.now)) }
+    ensures { IfOk result (λ x. IsClaimed x.value m.now.holders (replaced origin.now (O.offers offers.now) order.now m.now)) }
 {
     let replaced = replaced_rows(alloc, origin, offers, order, changed, m)?;
     let claimed = reclaimed(alloc, replaced, &m.holders)?;
-    Ok(claimed)
+    Ok(Box::new(alloc, claimed)?)
 }
 
 // The references of these offers.
@@ -75,12 +75,12 @@ pub fn claimed_by_entity<O: Offering>(
     offers: &O,
     order: &[Ref],
     m: &State,
-) -> Result<Claimed, AllocError>
+) -> Result<Box<Claimed>, AllocError>
     requires small { m.now.arrival ≤ 2 ^ 59 }
     requires ready { IsReady m.now }
     requires offers { AreOffers m.now }
     requires open { (r : RefValue) (x : OfferedValue) → O.offers offers.now r ≡ Some x → may_offer m.now.holders (Entity entity.now) ≡ true }
-    ensures { IfOk result (λ x. IsClaimed x m.now.holders (replaced (Entity entity.now) (O.offers offers.now) order.now m.now)) }
+    ensures { IfOk result (λ x. IsClaimed x.value m.now.holders (replaced (Entity entity.now) (O.offers offers.now) order.now m.now)) }
 {
     let origin = Origin::Entity(entity.duplicate(alloc)?);
     let changed = offered_or(alloc, m.records.get(entity), order)?;

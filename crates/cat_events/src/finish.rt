@@ -153,12 +153,12 @@ fn finish_plan<L: Layers>(
     m: &State,
     links: &Links,
     kept: &Record,
-) -> Result<Plan, AllocError>
+) -> Result<Box<Plan>, AllocError>
     requires steady { IsSteady L.rules links.now m.now }
     requires moments { AreMoments settings.now now }
     requires there { get m.now.records done.now.order.now.reference ≡ Some kept.now }
-    ensures state { IfOk result (λ x. planned x m.now ≡ frame L.rules (leaving settings.now.orphans) m.now (finished_state settings.now done.now.order.now.reference now kept.now (L.rules.result done.now.order.now.work) m.now)) }
-    ensures linked { IfOk result (λ x. AreLinked L.rules x.following.links.after (planned x m.now)) }
+    ensures state { IfOk result (λ x. planned x.value m.now ≡ frame L.rules (leaving settings.now.orphans) m.now (finished_state settings.now done.now.order.now.reference now kept.now (L.rules.result done.now.order.now.work) m.now)) }
+    ensures linked { IfOk result (λ x. AreLinked L.rules x.value.following.links.after (planned x.value m.now)) }
 {
     let outcome = done.outcome();
     let own = Own {

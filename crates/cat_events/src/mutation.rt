@@ -82,11 +82,11 @@ fn claimed_by(
     order: &[Ref],
     changed: &[Ref],
     m: &State,
-) -> Result<Claimed, AllocError>
+) -> Result<Box<Claimed>, AllocError>
     requires small { m.now.arrival ≤ 2 ^ 59 }
     requires ready { IsReady m.now }
     requires changed { IsChangedAmong (Provider p.now) (get items.now) changed.now m.now.rows }
-    ensures { IfOk result (λ x. IsClaimed x m.now.holders (replaced (Provider p.now) (get items.now) order.now m.now)) }
+    ensures { IfOk result (λ x. IsClaimed x.value m.now.holders (replaced (Provider p.now) (get items.now) order.now m.now)) }
 {
     let origin = Origin::Provider(p.duplicate(alloc)?);
     let claimed = claimed(alloc, &origin, items, order, changed, m)?;
@@ -146,10 +146,10 @@ fn mutation_plan<L: Layers>(
     x: &Given,
     m: &State,
     links: &Links,
-) -> Result<Plan, AllocError>
+) -> Result<Box<Plan>, AllocError>
     requires { IsSteady L.rules links.now m.now }
-    ensures state { IfOk result (λ y. planned y m.now ≡ frame L.rules Deleted m.now (mutated_state p.now x.now (source_at (get m.now.providers p.now)) m.now)) }
-    ensures linked { IfOk result (λ y. AreLinked L.rules y.following.links.after (planned y m.now)) }
+    ensures state { IfOk result (λ y. planned y.value m.now ≡ frame L.rules Deleted m.now (mutated_state p.now x.now (source_at (get m.now.providers p.now)) m.now)) }
+    ensures linked { IfOk result (λ y. AreLinked L.rules y.value.following.links.after (planned y.value m.now)) }
 {
     let source = source_of(alloc, m, p)?;
     let changed = given_or_removed(alloc, x, &source.items)?;

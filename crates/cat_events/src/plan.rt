@@ -34,15 +34,15 @@ pub struct OwnChange {
     pub how: Leaving,
     pub own: Option<Own>,
     pub inputs: Inputs,
-    pub claims: Option<Claimed>,
+    pub claims: Option<Box<Claimed>>,
     pub touched: Listing<Ref>,
 }
 
-/// All that differs after an event: the inputs, the claims, and what follows.
+/// All that differs after an event: the inputs, the claims, and what follows. It is handed on in a box, so that it is moved as one.
 #[derive(Drop)]
 pub struct Plan {
     pub inputs: Inputs,
-    pub claims: Option<Claimed>,
+    pub claims: Option<Box<Claimed>>,
     pub following: Following,
 }
 
@@ -56,7 +56,7 @@ pub fn shelf_after<'a>(inputs: &'a Inputs, shelf: &'a Map<Text, Text>) -> &'a Ma
     }
 }
 
-fn rows_after<'a>(claims: &'a Option<Claimed>, rows: &'a IndexedRows) -> &'a IndexedRows
+fn rows_after<'a>(claims: &'a Option<Box<Claimed>>, rows: &'a IndexedRows) -> &'a IndexedRows
     ensures { result.now ≡ rows_after claims.now rows.now }
 {
     match claims {
@@ -65,7 +65,10 @@ fn rows_after<'a>(claims: &'a Option<Claimed>, rows: &'a IndexedRows) -> &'a Ind
     }
 }
 
-fn holders_after<'a>(claims: &'a Option<Claimed>, holders: &'a Map<Ref, u64>) -> &'a Map<Ref, u64>
+fn holders_after<'a>(
+    claims: &'a Option<Box<Claimed>>,
+    holders: &'a Map<Ref, u64>,
+) -> &'a Map<Ref, u64>
     ensures { result.now ≡ holders_after claims.now holders.now }
 {
     match claims {
@@ -74,7 +77,7 @@ fn holders_after<'a>(claims: &'a Option<Claimed>, holders: &'a Map<Ref, u64>) ->
     }
 }
 
-fn fresh_of(claims: &Option<Claimed>) -> &[Ref]
+fn fresh_of(claims: &Option<Box<Claimed>>) -> &[Ref]
     ensures { result.now ≡ fresh_of claims.now }
 {
     match claims {
@@ -83,7 +86,7 @@ fn fresh_of(claims: &Option<Claimed>) -> &[Ref]
     }
 }
 
-fn leaving_of(claims: &Option<Claimed>) -> &[Ref]
+fn leaving_of(claims: &Option<Box<Claimed>>) -> &[Ref]
     ensures { result.now ≡ leaving_of claims.now }
 {
     match claims {
@@ -128,19 +131,20 @@ pub fn planned<L: Layers>(
     own: OwnChange,
     m: &State,
     links: &Links,
-) -> Result<Plan, AllocError>
+) -> Result<Box<Plan>, AllocError>
     requires steady { IsSteady L.rules links.now m.now }
     requires reach { IsReached L.rules own m.now }
-    ensures state { IfOk result (λ x. (n : StateValue) → IsOwned own m.now n → planned x m.now ≡ frame L.rules own.how m.now n) }
-    ensures linked { IfOk result (λ x. (n : StateValue) → IsOwned own m.now n → AreLinked L.rules x.following.links.after (frame L.rules own.how m.now n)) }
-    ensures inputs { IfOk result (λ x. x.inputs ≡ own.inputs) }
-    ensures claims { IfOk result (λ x. x.claims ≡ own.claims) }
+    ensures state { IfOk result (λ x. (n : StateValue) → IsOwned own m.now n → planned x.value m.now ≡ frame L.rules own.how m.now n) }
+    ensures linked { IfOk result (λ x. (n : StateValue) → IsOwned own m.now n → AreLinked L.rules x.value.following.links.after (frame L.rules own.how m.now n)) }
+    ensures inputs { IfOk result (λ x. x.value.inputs ≡ own.inputs) }
+    ensures claims { IfOk result (λ x. x.value.claims ≡ own.claims) }
 {
     let following = followed(alloc, layers, &own, m, links)?;
     let OwnChange { inputs, claims, .. } = own;
-    Ok(Plan {
+    let plan = Plan {
         inputs,
         claims,
         following,
-    })
+    };
+    Ok(Box::new(alloc, plan)?)
 }

@@ -20,7 +20,7 @@ use std::alloc::{AllocError, Global};
 /// No counter passes this.
 pub const MOST: u64 = 1 << 59;
 
-fn arrival_after(claims: &Option<Claimed>, arrival: u64) -> u64
+fn arrival_after(claims: &Option<Box<Claimed>>, arrival: u64) -> u64
     ensures { result ≡ arrival_after claims.now arrival }
 {
     match claims {
@@ -80,9 +80,9 @@ pub fn input_fault<L: Layers>(
 }
 
 /// What an event comes to that may be refused by `fault`, where this is its plan.
-pub fn unless(fault: Option<Fault>, plan: Plan) -> Step
-    ensures seen { (m : StateValue) → seen result m ≡ stepped fault (planned plan m) }
-    ensures linked { (rules : Rules) (m : StateValue) → AreLinked rules plan.following.links.after (planned plan m) → IsLinkedStep rules result m }
+pub fn unless(fault: Option<Fault>, plan: Box<Plan>) -> Step
+    ensures seen { (m : StateValue) → seen result m ≡ stepped fault (planned plan.value m) }
+    ensures linked { (rules : Rules) (m : StateValue) → AreLinked rules plan.value.following.links.after (planned plan.value m) → IsLinkedStep rules result m }
 {
     match fault {
         Some(fault) => Step::Refused(fault),
@@ -91,9 +91,9 @@ pub fn unless(fault: Option<Fault>, plan: Plan) -> Step
 }
 
 /// What an event without other refusals comes to, where this is its plan.
-pub fn unless_spent(plan: Plan, m: &State) -> Step
-    ensures seen { seen result m.now ≡ stepped (spent (planned plan m.now)) (planned plan m.now) }
-    ensures linked { (rules : Rules) → AreLinked rules plan.following.links.after (planned plan m.now) → IsLinkedStep rules result m.now }
+pub fn unless_spent(plan: Box<Plan>, m: &State) -> Step
+    ensures seen { seen result m.now ≡ stepped (spent (planned plan.value m.now)) (planned plan.value m.now) }
+    ensures linked { (rules : Rules) → AreLinked rules plan.value.following.links.after (planned plan.value m.now) → IsLinkedStep rules result m.now }
 {
     let fault = spent_after(&plan, m);
     unless(fault, plan)

@@ -22,7 +22,7 @@ pub enum Stepped {
 #[derive(Drop)]
 pub enum Step {
     Refused(Fault),
-    Acts(Plan),
+    Acts(Box<Plan>),
 }
 
 /// Takes a step in, or answers its refusal. Where memory is wanted, nothing changes.
@@ -41,7 +41,7 @@ pub fn take_in(
     match step {
         Step::Refused(fault) => Ok(Some(fault)),
         Step::Acts(plan) => {
-            applied(alloc, plan, state, links)?;
+            applied(alloc, Box::into_inner(plan), state, links)?;
             Ok(None)
         }
     }

@@ -3,7 +3,7 @@ use denote.Param.Send.{IsSend, IsSync, view_send, shr_send}
 use denote.Param.SendFields.{declared_send, declared_sync, variants_send}
 use denote.RattleType.{RattleType}
 use denote.Ref.{NamedLft}
-use Rattle.std.proofs.Crossing.{Vec-send}
+use Rattle.std.proofs.Crossing.{Box-send, Vec-send}
 use Rattle.cat_types.specs.contracts.input.Mutation as Mutation
 use Rattle.cat_types.specs.contracts.parts.Parts as Parts
 use Rattle.cat_model.specs.contracts.types.Order as Order
@@ -13,6 +13,7 @@ use Rattle.cat_io.specs.declared.clock.Clock as Clock
 use Rattle.cat_core.specs.contracts.ledger.Ledger as Ledger
 use Rattle.cat_core.specs.contracts.catalogue.Catalogue as Catalogue
 use Rattle.cat_core.specs.contracts.catalogue.Catalogue.TheInside as within
+use Rattle.cat_core.specs.contracts.catalogue.Held as Held
 use Rattle.cat_core.specs.contracts.catalogue.Saved as Saved
 use Rattle.cat_core.specs.contracts.catalogue.Saved.TheInside as saved
 use Rattle.cat_desk.specs.contracts.command.Reply as Reply
@@ -94,12 +95,15 @@ entry_send = declared_send Entry.the_type (search known depth 60, (noted_send, t
 ledger_send : IsSend Ledger.the_row
 ledger_send = declared_send Ledger.the_type (search known depth 60, (state_send, tt))
 
+held_send : IsSend Held.the_row
+held_send = declared_send Held.the_type (state_send, (search (links_send, known) depth 20, tt))
+
 module _ (L : RattleType) (layers : Layers.Ghosts L.Denot) (l : IsSend L) where
   pub catalogue_send : IsSend (Catalogue.the_row L layers)
   catalogue_send = view_send _ _ _ _ _ (declared_send (within.the_type L layers) (search (l, known) depth 60, (ledger_send, (search (links_send, known) depth 20, tt))))
 
   pub saved_send : IsSend (Saved.the_row L layers)
-  saved_send = view_send _ _ _ _ _ (declared_send (saved.the_type L layers) (search (state_send, known) depth 20, (search (links_send, known) depth 20, (search (l, known) depth 20, tt))))
+  saved_send = view_send _ _ _ _ _ (declared_send (saved.the_type L layers) (Box-send Held.the_row held_send, (search (l, known) depth 20, tt)))
 
   module _ (C : RattleType) (c : IsSend C) where
     timed_send : IsSend (Timed.the_row L C layers)

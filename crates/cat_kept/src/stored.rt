@@ -69,10 +69,10 @@ fn refuse<O: Sink>(alloc: Global, table: Table, key: &str, sink: &mut O) -> Stat
 
 // The session over what was opened.
 fn session_of<K: Keeper>(alloc: Global, opened: Opened<K>) -> KeptSession<Layered, K>
-    requires opening { IsOpening layered opened.links opened.state }
-    requires rows { opened.store.rows ≡ stored opened.store.orphans opened.state }
+    requires opening { IsOpening layered opened.links opened.state.value }
+    requires rows { opened.store.rows ≡ stored opened.store.orphans opened.state.value }
     requires told { Are (K.tables opened.store.place opened.store.keeper) (texts_of opened.store.rows) }
-    ensures { result ≡ record { ruled = record { orphans = opened.store.orphans; session = session_over opened.state }; place = opened.store.place; refusals = 0 } }
+    ensures { result ≡ record { ruled = record { orphans = opened.store.orphans; session = session_over opened.state.value }; place = opened.store.place; refusals = 0 } }
 {
     let Opened {
         state,
@@ -87,10 +87,10 @@ fn session_of<K: Keeper>(alloc: Global, opened: Opened<K>) -> KeptSession<Layere
 
 // The service over what was opened, at the moment 0.
 fn service_of<'a, K: Keeper>(alloc: Global, opened: Opened<K>) -> KeptService<'a, Layered, K>
-    requires opening { IsOpening layered opened.links opened.state }
-    requires rows { opened.store.rows ≡ stored opened.store.orphans opened.state }
+    requires opening { IsOpening layered opened.links opened.state.value }
+    requires rows { opened.store.rows ≡ stored opened.store.orphans opened.state.value }
     requires told { Are (K.tables opened.store.place opened.store.keeper) (texts_of opened.store.rows) }
-    ensures catalogue { result.desk.catalogue ≡ record { settings = program_settings opened.store.orphans; state = opened.state } }
+    ensures catalogue { result.desk.catalogue ≡ record { settings = program_settings opened.store.orphans; state = opened.state.value } }
     ensures moment { result.desk.clock.moment ≡ 0 }
     ensures feed { result.desk.feed ≡ begun 0 }
     ensures place { result.desk.store.place ≡ opened.store.place }

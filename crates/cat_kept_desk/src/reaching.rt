@@ -1,10 +1,12 @@
 //! What a command reached of what is stored.
-ghost use Rattle.std.specs.Prelude.{◌≡◌, IfOk, option_map};
-ghost use Rattle.std.specs.declared.option.Option.TheVariants.{None};
+ghost use Rattle.std.specs.Prelude.{◌≡◌, [], IfOk, option_map};
+ghost use Rattle.std.specs.declared.option.Option.TheVariants.{None, Some};
 ghost use Rattle.cat_desk.specs.Deed.{deed_of};
 ghost use Rattle.cat_desk.specs.Deed.Deed.{Settle};
 ghost use Rattle.cat_model.specs.declared.types.State.{State};
 ghost use Rattle.cat_kept_desk.specs.Reached.{IsFound, refs_from};
+ghost use Rattle.cat_model.specs.Given.{given};
+ghost use Rattle.cat_reached.specs.Reach.{given_refs, reached};
 
 use cat_core::catalogue::{Done, Saved, Stitched};
 use cat_desk::command::Command;
@@ -13,6 +15,8 @@ use cat_model::types::State;
 use cat_reached::reached::{mutated_refs, refs_of};
 use cat_renewed::reached::Reached;
 use cat_table::listing::{Copied, Listing};
+use cat_tree::text::Text;
+use cat_types::input::Mutation;
 use cat_types::reference::Ref;
 use std::alloc::{AllocError, Global};
 
@@ -34,6 +38,41 @@ fn reached_from(
         references,
         provider: None,
         name: None,
+    })
+}
+
+// What a mutation reached: references, and the inputs of its provider.
+fn mutated_reached(
+    alloc: Global,
+    provider: &Text,
+    mutation: &Mutation,
+    before: &State,
+    after: &State,
+) -> Result<Reached, AllocError>
+    ensures references { IfOk result (λ x. x.references.items ≡ reached (given_refs provider.now (given provider.now mutation.now) before.now) before.now after.now) }
+    ensures provider { IfOk result (λ x. x.provider ≡ Some provider.now) }
+    ensures name { IfOk result (λ x. x.name ≡ None) }
+{
+    let references = mutated_refs(alloc, provider, mutation, before, after)?;
+    let provider = provider.duplicate(alloc)?;
+    Ok(Reached {
+        references,
+        provider: Some(provider),
+        name: None,
+    })
+}
+
+// What a change of a text of the shelf reached: that text.
+fn text_reached(alloc: Global, name: &Text) -> Result<Reached, AllocError>
+    ensures references { IfOk result (λ x. x.references.items ≡ []) }
+    ensures provider { IfOk result (λ x. x.provider ≡ None) }
+    ensures name { IfOk result (λ x. x.name ≡ Some name.now) }
+{
+    let name = name.duplicate(alloc)?;
+    Ok(Reached {
+        references: Vec::new(alloc),
+        provider: None,
+        name: Some(name),
     })
 }
 
@@ -64,16 +103,12 @@ pub fn reached<L: Layers>(
 {
     let before = saved.state();
     match command {
-        Command::Mutate(provider, mutation) => Ok(Some(Reached {
-            references: mutated_refs(alloc, provider, mutation, before, after)?,
-            provider: Some(provider.duplicate(alloc)?),
-            name: None,
-        })),
-        Command::ShelfPut(name, _) | Command::ShelfDrop(name) => Ok(Some(Reached {
-            references: Vec::new(alloc),
-            provider: None,
-            name: Some(name.duplicate(alloc)?),
-        })),
+        Command::Mutate(provider, mutation) => Ok(Some(mutated_reached(
+            alloc, provider, mutation, before, after,
+        )?)),
+        Command::ShelfPut(name, _) | Command::ShelfDrop(name) => {
+            Ok(Some(text_reached(alloc, name)?))
+        }
         Command::Forget(reference) => Ok(Some(reached_from(
             alloc,
             Some(reference),

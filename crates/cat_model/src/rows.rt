@@ -6,7 +6,7 @@ ghost use Rattle.std.specs.Option.{unwrap_or};
 ghost use Rattle.cat_table.specs.Left.{items_left};
 ghost use Rattle.cat_table.specs.Places.{first_from, from};
 ghost use Rattle.cat_table.specs.Rows.{without};
-ghost use Rattle.cat_table.specs.Table.{find, keys, put};
+ghost use Rattle.cat_table.specs.Table.{find, keys, put, text_cmp};
 ghost use Rattle.cat_model.specs.declared.types.Origin.TheVariants.{Entity};
 ghost use Rattle.cat_model.specs.Rows.{GivenRises, GivenRisesLess, IsRowAt, Rises, RisesLess, given, named, names_of, reading, row_at, set_with, set_without, with_arrival, with_given, with_names, with_read, with_set, without_arrival, without_given, without_names};
 
@@ -244,6 +244,56 @@ impl Copied for IndexedRows {
     }
 }
 
+// Arrivals by entity and by reference.
+#[derive(Drop)]
+struct Indexes {
+    by_entity: Index<Ref>,
+    by_reference: Index<Ref>,
+}
+
+// The indexes by entity and by reference, with the arrival of this row.
+fn indexes_with(
+    alloc: Global,
+    by_entity: &Index<Ref>,
+    by_reference: &Index<Ref>,
+    arrival: u64,
+    row: &Row,
+) -> Result<Indexes, AllocError>
+    ensures entity { IfOk result (λ x. x.by_entity ≡ with_given row.now.origin arrival by_entity.now) }
+    ensures entity_order { IfOk result (λ x. GivenRises row.now.origin arrival by_entity.now) }
+    ensures reference { IfOk result (λ x. x.by_reference ≡ with_arrival text_cmp row.now.reference arrival by_reference.now) }
+    ensures reference_order { IfOk result (λ x. Rises text_cmp row.now.reference arrival by_reference.now) }
+{
+    let by_entity = with_given(alloc, by_entity, &row.origin, arrival)?;
+    let by_reference = with_arrival(alloc, by_reference, &row.reference, arrival)?;
+    Ok(Indexes {
+        by_entity,
+        by_reference,
+    })
+}
+
+// The indexes by entity and by reference, without the arrival of a row of this origin and reference.
+fn indexes_without(
+    alloc: Global,
+    by_entity: &Index<Ref>,
+    by_reference: &Index<Ref>,
+    arrival: u64,
+    origin: &Origin,
+    reference: &Ref,
+) -> Result<Indexes, AllocError>
+    ensures entity { IfOk result (λ x. x.by_entity ≡ without_given origin.now arrival by_entity.now) }
+    ensures entity_order { IfOk result (λ x. GivenRisesLess origin.now arrival by_entity.now) }
+    ensures reference { IfOk result (λ x. x.by_reference ≡ without_arrival text_cmp reference.now arrival by_reference.now) }
+    ensures reference_order { IfOk result (λ x. RisesLess text_cmp reference.now arrival by_reference.now) }
+{
+    let by_entity = without_given(alloc, by_entity, origin, arrival)?;
+    let by_reference = without_arrival(alloc, by_reference, reference, arrival)?;
+    Ok(Indexes {
+        by_entity,
+        by_reference,
+    })
+}
+
 impl IndexedRows {
     /// No rows. Takes no memory.
     pub fn new() -> IndexedRows
@@ -275,12 +325,11 @@ impl IndexedRows {
         ensures { self.new ≡ (if is_ok result then put nat_cmp arrival row self.old else self.old) }
     {
         self.rows.in_order();
-        let by_entity = with_given(alloc, &self.by_entity, &row.origin, arrival)?;
-        let by_reference = with_arrival(alloc, &self.by_reference, &row.reference, arrival)?;
+        let indexes = indexes_with(alloc, &self.by_entity, &self.by_reference, arrival, &row)?;
         let by_name = with_read(alloc, &self.by_name, &self.rows, arrival, &row)?;
         self.rows.put(alloc, arrival, row)?;
-        self.by_entity = by_entity;
-        self.by_reference = by_reference;
+        self.by_entity = indexes.by_entity;
+        self.by_reference = indexes.by_reference;
         self.by_name = by_name;
         Ok(())
     }
@@ -309,12 +358,18 @@ impl IndexedRows {
         ensures { self.new ≡ (if is_ok result then without nat_cmp arrival self.old else self.old) }
     {
         self.rows.in_order();
-        let by_entity = without_given(alloc, &self.by_entity, origin, arrival)?;
-        let by_reference = without_arrival(alloc, &self.by_reference, reference, arrival)?;
+        let indexes = indexes_without(
+            alloc,
+            &self.by_entity,
+            &self.by_reference,
+            arrival,
+            origin,
+            reference,
+        )?;
         let by_name = unread(alloc, &self.by_name, &self.rows, arrival)?;
         self.rows.remove(alloc, &arrival)?;
-        self.by_entity = by_entity;
-        self.by_reference = by_reference;
+        self.by_entity = indexes.by_entity;
+        self.by_reference = indexes.by_reference;
         self.by_name = by_name;
         Ok(())
     }

@@ -3,6 +3,7 @@ ghost use Rattle.std.specs.Prelude.{◌≡◌, ◌<◌, ◌^◌, IfOk};
 ghost use Rattle.cat_core.specs.Kept.{AreSettings};
 ghost use Rattle.cat_model.specs.Settle.{try_settle};
 ghost use Rattle.cat_model.specs.Reply.{counts};
+ghost use Rattle.cat_model.specs.Step.{start};
 ghost use Rattle.cat_sample.specs.Sample.{sample_state};
 ghost use Rattle.cat_sample.specs.Summary.{sample_line};
 
@@ -14,28 +15,23 @@ use cat_model::types::{Counts, Settings};
 use cat_tree::text::Text;
 use std::alloc::{AllocError, Global};
 
-// The catalogue to which the provider `sample` gave Groups and Components.
-fn filled<L: Layers + Drop>(
+// The provider `sample` gives Groups and Components to an empty catalogue.
+fn fill<L: Layers>(
     alloc: Global,
-    layers: L,
-    settings: Settings,
+    catalogue: &mut Catalogue<L>,
     seed: u64,
     count: u64,
-) -> Result<Catalogue<L>, AllocError>
-    requires settings { AreSettings settings }
+) -> Result<(), AllocError>
+    requires empty { catalogue.old.state ≡ start }
     requires seed { seed < 2 ^ 31 }
-    ensures state { IfOk result (λ c. c.state ≡ sample_state L.rules settings seed count) }
-    ensures settings { IfOk result (λ c. c.settings ≡ settings) }
+    ensures state { IfOk result (λ _. catalogue.new.state ≡ sample_state L.rules catalogue.old.settings seed count) }
+    ensures settings { catalogue.new.settings ≡ catalogue.old.settings }
 {
     let provider = Text::of(alloc, "sample")?;
     let mutation = mutation(alloc, seed, count)?;
-    let mut catalogue = Catalogue::empty(alloc, layers, settings);
     match catalogue.mutate(alloc, &provider, &mutation) {
-        Ok(_) => Ok(catalogue),
-        Err(_) => {
-            drop(catalogue);
-            Err(AllocError)
-        }
+        Ok(_) => Ok(()),
+        Err(_) => Err(AllocError),
     }
 }
 
@@ -67,7 +63,8 @@ pub fn sample<L: Layers + Drop>(
     requires seed { seed < 2 ^ 31 }
     ensures { IfOk result (λ text. text.items ≡ sample_line L.rules settings seed count) }
 {
-    let mut catalogue = filled(alloc, layers, settings, seed, count)?;
+    let mut catalogue = Catalogue::empty(alloc, layers, settings);
+    fill(alloc, &mut catalogue, seed, count)?;
     let settled = settle(alloc, &mut catalogue)?;
     summary(alloc, count, settled, catalogue.docs())
 }

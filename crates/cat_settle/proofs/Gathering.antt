@@ -1,5 +1,5 @@
 -- How what events reach is gathered, one after the other.
-use Rattle.std.proofs.Common.{◌≡◌, ℕ, false, List, [], ◌++◌, IfSome, refl, sym, ap, subst, ◌∙◌}
+use Rattle.std.proofs.Common.{Box, Global, ◌≡◌, ℕ, false, List, [], ◌++◌, IfSome, refl, sym, ap, subst, ◌∙◌}
 use Rattle.std.proofs.lemmas.List.Folds.{list_any-append}
 use Rattle.std.specs.declared.option.Option.{Option}
 use Rattle.std.specs.declared.option.Option.TheVariants.{None, Some}
@@ -95,13 +95,14 @@ known_before None (Some refs) b m n r is h = absurd h
 known_before (Some before) (Some refs) b m n r is h = h ∙ ap (λ (k : State). before ++ reached (own_refs r k n) k n) is
 
 -- what is put behind the references gathered before
-pub more_gathered : (old : Option (List Ref)) (before : Option State) (refs more : List Ref) (b : State) (r : Ref) (n : State) (new : Option (List Ref)) → old ≡ Some refs → before ≡ Some b → more ≡ reached (own_refs r b n) b n
-    → IfSome new (λ all. all ≡ refs ++ more) → (m : State) → IfSome before (λ k. k ≡ record m { records = [] }) → IsGathered old m r n new
-more_gathered old before refs more b r n new is at tells all m known =
+pub more_gathered : (old : Option (List Ref)) (before : Option (Box State Global)) (refs more : List Ref) (b : Box State Global) (r : Ref) (d n : State) (new : Option (List Ref)) → old ≡ Some refs → before ≡ Some b → d ≡ b.value
+    → more ≡ reached (own_refs r d n) d n
+    → IfSome new (λ all. all ≡ refs ++ more) → (m : State) → IfSome before (λ k. k.value ≡ record m { records = [] }) → IsGathered old m r n new
+more_gathered old before refs more b r d n new is at lent tells all m known =
     subst (λ o. IsGathered o m r n new) (sym is)
-    (known_before (Some refs) new b m n r (subst (λ v. IfSome v (λ k. k ≡ record m { records = [] })) at known) (put new all))
+    (known_before (Some refs) new b.value m n r (subst (λ v. IfSome v (λ k. k.value ≡ record m { records = [] })) at known) (subst (λ k. IsGathered (Some refs) k r n new) lent (put new all)))
   where
-    put : (new : Option (List Ref)) → IfSome new (λ all. all ≡ refs ++ more) → IsGathered (Some refs) b r n new
+    put : (new : Option (List Ref)) → IfSome new (λ all. all ≡ refs ++ more) → IsGathered (Some refs) d r n new
     put None h = tt
     put (Some all) h = h ∙ ap (λ l. refs ++ l) tells
 

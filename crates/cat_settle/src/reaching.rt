@@ -10,14 +10,26 @@ use cat_table::listing::Listing;
 use cat_types::reference::Ref;
 use std::alloc::{AllocError, Global};
 
-/// Where references are gathered, the state before an event without its records, so that its rows and holders can be looked at after the event. All
-/// is shared, and no memory is taken.
-pub(crate) fn rows_before(reached: &Option<Listing<Ref>>, m: &State) -> Option<State>
-    ensures { IfSome result (λ b. b ≡ record m.now { records = [] }) }
+// A state without its records, in a box, so that it is moved as one. All else is shared.
+fn without_records(alloc: Global, m: &State) -> Result<Box<State>, AllocError>
+    ensures { IfOk result (λ b. b.value ≡ record m.now { records = [] }) }
+{
+    let rest = m.with_records(Records::new())?;
+    Ok(Box::new(alloc, rest)?)
+}
+
+/// Where references are gathered, the state before an event without its records, so that its rows and holders can be looked at after the event. None
+/// where none are gathered, or where memory lacks.
+pub(crate) fn rows_before(
+    alloc: Global,
+    reached: &Option<Listing<Ref>>,
+    m: &State,
+) -> Option<Box<State>>
+    ensures { IfSome result (λ b. b.value ≡ record m.now { records = [] }) }
 {
     match reached {
         None => None,
-        Some(_) => m.with_records(Records::new()).ok(),
+        Some(_) => without_records(alloc, m).ok(),
     }
 }
 
@@ -47,11 +59,11 @@ fn with_more(refs: Listing<Ref>, more: Vec<Ref>, most: usize) -> Option<Listing<
 pub(crate) fn gathered(
     alloc: Global,
     reached: Option<Listing<Ref>>,
-    before: &Option<State>,
+    before: &Option<Box<State>>,
     reference: &Ref,
     after: &State,
 ) -> Option<Listing<Ref>>
-    ensures { (m : StateValue) → IfSome before.now (λ b. b ≡ record m { records = [] }) → IsGathered reached m reference.now after.now result }
+    ensures { (m : StateValue) → IfSome before.now (λ b. b.value ≡ record m { records = [] }) → IsGathered reached m reference.now after.now result }
 {
     match (reached, before) {
         (Some(refs), Some(before)) => match refs_of(alloc, reference, before, after) {

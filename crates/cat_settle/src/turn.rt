@@ -106,7 +106,7 @@ fn finished_and_gathered<L: Layers>(
     ensures steady { IsSteady L.rules links.new p.new.state }
     ensures gathers { Gathers reached.old p.old.state reached.new p.new.state }
 {
-    let before = rows_before(reached, &p.state);
+    let before = rows_before(alloc, reached, &p.state);
     let came = finished(alloc, layers, settings, now, order, p, links);
     *reached = gathered(alloc, reached.take(), &before, &order.reference, &p.state);
     came

@@ -13,10 +13,10 @@ use cat_links::links::Links;
 use cat_model::types::State;
 use std::alloc::{AllocError, Global};
 
-/// A state, and the relations of its kept outputs.
+/// A state, in a box, so that it is moved as one, and the relations of its kept outputs.
 #[derive(Drop)]
 pub struct Opening {
-    pub state: State,
+    pub state: Box<State>,
     pub links: Links,
 }
 
@@ -24,12 +24,12 @@ pub struct Opening {
 fn with_documents<L: Layers>(
     alloc: Global,
     layers: &L,
-    candidate: State,
+    candidate: Box<State>,
 ) -> Result<Opening, AllocError>
-    requires { is_candidate candidate ≡ true }
-    ensures steady { IfOk result (λ x. IsSteady L.rules x.links x.state) }
-    ensures begun { IfOk result (λ x. AreBegun x.state) }
-    ensures state { IfOk result (λ x. x.state ≡ reopened L.rules candidate) }
+    requires { is_candidate candidate.value ≡ true }
+    ensures steady { IfOk result (λ x. IsSteady L.rules x.links x.state.value) }
+    ensures begun { IfOk result (λ x. AreBegun x.state.value) }
+    ensures state { IfOk result (λ x. x.state.value ≡ reopened L.rules candidate.value) }
 {
     let links = links_of(alloc, layers, &candidate)?;
     let documents = documents_of(alloc, layers, &links, &candidate)?;
@@ -44,12 +44,12 @@ fn with_documents<L: Layers>(
 pub fn opened<L: Layers>(
     alloc: Global,
     layers: &L,
-    candidate: State,
+    candidate: Box<State>,
 ) -> Result<Option<Opening>, AllocError>
-    ensures steady { IfOk result (λ o. IfSome o (λ x. IsSteady L.rules x.links x.state)) }
-    ensures begun { IfOk result (λ o. IfSome o (λ x. AreBegun x.state)) }
-    ensures state { IfOk result (λ o. IfSome o (λ x. x.state ≡ reopened L.rules candidate)) }
-    ensures exact { IfOk result (λ o. is_some o ≡ is_candidate candidate) }
+    ensures steady { IfOk result (λ o. IfSome o (λ x. IsSteady L.rules x.links x.state.value)) }
+    ensures begun { IfOk result (λ o. IfSome o (λ x. AreBegun x.state.value)) }
+    ensures state { IfOk result (λ o. IfSome o (λ x. x.state.value ≡ reopened L.rules candidate.value)) }
+    ensures exact { IfOk result (λ o. is_some o ≡ is_candidate candidate.value) }
 {
     if is_candidate(alloc, &candidate)? {
         Ok(Some(with_documents(alloc, layers, candidate)?))

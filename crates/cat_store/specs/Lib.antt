@@ -1,4 +1,5 @@
 pub mod Narrow
+pub mod Boxed
 pub mod Opened
 pub mod Tells
 pub mod Refused

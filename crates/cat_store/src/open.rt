@@ -8,8 +8,10 @@ ghost use Rattle.cat_keeper.specs.Store.{applied};
 ghost use Rattle.cat_model.specs.Step.{reopened};
 ghost use Rattle.cat_opening.specs.Candidate.{IsCandidate};
 ghost use Rattle.cat_opening.specs.Forms.{has_forms};
+ghost use Rattle.cat_opening.specs.Read.{AreNoTexts};
 ghost use Rattle.cat_renewed.specs.Right.{AreOfNone};
 ghost use Rattle.cat_sound.specs.Candidate.{is_candidate};
+ghost use Rattle.cat_store.specs.Boxed.{unboxed};
 ghost use Rattle.cat_store.specs.Opened.{HasRule, IsOpening, IsRead, is_first, is_of_first, is_row_of_first, rows_in};
 ghost use Rattle.cat_store.specs.Refused.{AreTheirs, IsDifference, IsDiffering, IsNamed, IsRefused};
 ghost use Rattle.cat_store.specs.Tells.{is_telling};
@@ -27,7 +29,6 @@ use cat_links::links::Links;
 use cat_model::types::{OrphanRule, State};
 use cat_opening::candidate::candidate;
 use cat_opening::forms::has_forms;
-use cat_opening::types::Candidate;
 use cat_sound::reopen::{Opening, opened};
 use cat_tables::batch::batch_to;
 use cat_tables::first::first_rows;
@@ -48,10 +49,10 @@ pub enum OpenFault {
     NoMemory,
 }
 
-/// A catalogue's state with the relations of its kept outputs, and the store that follows it.
+/// A catalogue's state, in a box, with the relations of its kept outputs, and the store that follows it.
 #[derive(Drop)]
 pub struct Opened<K: Keeper> {
-    pub state: State,
+    pub state: Box<State>,
     pub links: Links,
     pub store: Store<K>,
 }
@@ -59,7 +60,7 @@ pub struct Opened<K: Keeper> {
 // What rows were read to: a state with its links, its rows under a rule for orphans, and the changes that lead to these.
 #[derive(Drop)]
 struct Reading {
-    state: State,
+    state: Box<State>,
     links: Links,
     orphans: OrphanRule,
     rows: Stored,
@@ -168,8 +169,8 @@ fn are_same(left: &StoredRows, right: &StoredRows) -> bool
 // What was opened, where its rows tell its state.
 fn telling(found: Option<Opening>) -> Option<Opening>
     ensures same { IfSome result (λ x. found ≡ Some x) }
-    ensures tells { IfSome result (λ x. is_telling x.state ≡ true) }
-    ensures opens { result ≡ None → IfSome found (λ x. is_telling x.state ≡ false) }
+    ensures tells { IfSome result (λ x. is_telling x.state.value ≡ true) }
+    ensures opens { result ≡ None → IfSome found (λ x. is_telling x.state.value ≡ false) }
 {
     let opening = found?;
     if is_telling(&opening.state) {
@@ -183,11 +184,11 @@ fn telling(found: Option<Opening>) -> Option<Opening>
 fn told<L: Layers>(
     alloc: Global,
     layers: &L,
-    candidate: State,
+    candidate: Box<State>,
 ) -> Result<Option<Opening>, AllocError>
-    ensures opening { IfOk result (λ o. IfSome o (λ x. IsOpening L.rules x.links x.state)) }
-    ensures state { IfOk result (λ o. IfSome o (λ x. x.state ≡ reopened L.rules candidate)) }
-    ensures opens { IfOk result (λ o. is_candidate candidate ≡ true → is_telling (reopened L.rules candidate) ≡ true → o ≢ None) }
+    ensures opening { IfOk result (λ o. IfSome o (λ x. IsOpening L.rules x.links x.state.value)) }
+    ensures state { IfOk result (λ o. IfSome o (λ x. x.state.value ≡ reopened L.rules candidate.value)) }
+    ensures opens { IfOk result (λ o. is_candidate candidate.value ≡ true → is_telling (reopened L.rules candidate.value) ≡ true → o ≢ None) }
 {
     let found = opened(alloc, layers, candidate)?;
     Ok(telling(found))
@@ -207,12 +208,32 @@ fn is_right<L: Layers>(
     Ok(has_forms && bytes <= input_limit)
 }
 
+// What the rows of a store stand for, as a candidate does, with its state in a box, so that it is moved as one.
+#[derive(Drop)]
+struct BoxedCandidate {
+    rule: OrphanRule,
+    state: Box<State>,
+}
+
 // What the rows of a store open as, with the rule for orphans that they have.
 #[derive(Drop)]
 struct Found {
-    state: State,
+    state: Box<State>,
     links: Links,
     orphans: OrphanRule,
+}
+
+// What rows stand for, with its state in a box; none where some of them spell no row.
+fn boxed_candidate(alloc: Global, rows: &StoredRows) -> Result<Option<BoxedCandidate>, AllocError>
+    ensures { IfOk result (λ o. MatchOption o (AreNoTexts rows.now) (λ c. IsCandidate rows.now (unboxed c))) }
+{
+    match candidate(alloc, rows)? {
+        None => Ok(None),
+        Some(found) => Ok(Some(BoxedCandidate {
+            rule: found.rule,
+            state: Box::new(alloc, found.state)?,
+        })),
+    }
 }
 
 // What rows stand for, where it keeps to its form and the limit.
@@ -221,11 +242,11 @@ fn right_candidate<L: Layers>(
     layers: &L,
     rows: &StoredRows,
     input_limit: u64,
-) -> Result<Option<Candidate>, AllocError>
-    ensures candidate { IfOk result (λ o. IfSome o (IsCandidate rows.now)) }
+) -> Result<Option<BoxedCandidate>, AllocError>
+    ensures candidate { IfOk result (λ o. IfSome o (λ c. IsCandidate rows.now (unboxed c))) }
     ensures opens { IfOk result (λ o. o ≡ None → AreOfNone L.rules input_limit rows.now) }
 {
-    let Some(candidate) = candidate(alloc, rows)? else {
+    let Some(candidate) = boxed_candidate(alloc, rows)? else {
         return Ok(None);
     };
     if is_right(alloc, layers, &candidate.state, input_limit)? {
@@ -240,11 +261,11 @@ fn found_as<L: Layers>(
     alloc: Global,
     layers: &L,
     rows: &StoredRows,
-    candidate: Candidate,
+    candidate: BoxedCandidate,
 ) -> Result<Option<Found>, AllocError>
-    requires { IsCandidate rows.now candidate }
-    ensures opening { IfOk result (λ o. IfSome o (λ x. IsOpening L.rules x.links x.state)) }
-    ensures rule { IfOk result (λ o. IfSome o (λ x. HasRule rows.now x.orphans x.state)) }
+    requires { IsCandidate rows.now (unboxed candidate) }
+    ensures opening { IfOk result (λ o. IfSome o (λ x. IsOpening L.rules x.links x.state.value)) }
+    ensures rule { IfOk result (λ o. IfSome o (λ x. HasRule rows.now x.orphans x.state.value)) }
     ensures opens { IfOk result (λ o. o ≡ None → (limit : ℕ) → AreOfNone L.rules limit rows.now) }
 {
     let orphans = stored_rule(is_first(rows), candidate.rule);
@@ -269,8 +290,8 @@ fn found_in<L: Layers>(
     rows: &StoredRows,
     input_limit: u64,
 ) -> Result<Option<Found>, AllocError>
-    ensures opening { IfOk result (λ o. IfSome o (λ x. IsOpening L.rules x.links x.state)) }
-    ensures rule { IfOk result (λ o. IfSome o (λ x. HasRule rows.now x.orphans x.state)) }
+    ensures opening { IfOk result (λ o. IfSome o (λ x. IsOpening L.rules x.links x.state.value)) }
+    ensures rule { IfOk result (λ o. IfSome o (λ x. HasRule rows.now x.orphans x.state.value)) }
     ensures opens { IfOk result (λ o. o ≡ None → AreOfNone L.rules input_limit rows.now) }
 {
     let Some(candidate) = right_candidate(alloc, layers, rows, input_limit)? else {
@@ -287,11 +308,11 @@ fn read<L: Layers>(
     orphans: Option<OrphanRule>,
     input_limit: u64,
 ) -> Result<Option<Reading>, AllocError>
-    ensures opening { IfOk result (λ o. IfSome o (λ x. IsOpening L.rules x.links x.state)) }
-    ensures read { IfOk result (λ o. IfSome o (λ x. IsRead rows.now x.state)) }
+    ensures opening { IfOk result (λ o. IfSome o (λ x. IsOpening L.rules x.links x.state.value)) }
+    ensures read { IfOk result (λ o. IfSome o (λ x. IsRead rows.now x.state.value)) }
     ensures rule { IfOk result (λ o. IfSome o (λ x. IfSome orphans (λ rule. x.orphans ≡ rule))) }
-    ensures kept { IfOk result (λ o. IfSome o (λ x. orphans ≡ None → HasRule rows.now x.orphans x.state)) }
-    ensures rows { IfOk result (λ o. IfSome o (λ x. x.rows ≡ stored x.orphans x.state)) }
+    ensures kept { IfOk result (λ o. IfSome o (λ x. orphans ≡ None → HasRule rows.now x.orphans x.state.value)) }
+    ensures rows { IfOk result (λ o. IfSome o (λ x. x.rows ≡ stored x.orphans x.state.value)) }
     ensures batch { IfOk result (λ o. IfSome o (λ x. applied x.batch rows.now ≡ texts_of x.rows)) }
     ensures opens { IfOk result (λ o. o ≡ None → AreOfNone L.rules input_limit rows.now) }
 {
@@ -314,7 +335,7 @@ fn read<L: Layers>(
 fn difference(alloc: Global, rows: &StoredRows) -> Result<Option<(Table, Text)>, AllocError>
     ensures { IfOk result (λ key. MatchOption key (AreTheirs rows.now) (IsDifference rows.now)) }
 {
-    let Some(found) = candidate(alloc, rows)? else {
+    let Some(found) = boxed_candidate(alloc, rows)? else {
         return Ok(None);
     };
     let told = texts_like(alloc, rows, found.rule, &found.state)?;
@@ -370,11 +391,11 @@ pub fn open<L: Layers, K: Keeper>(
     orphans: Option<OrphanRule>,
     input_limit: u64,
 ) -> Result<Opened<K>, (OpenFault, K)>
-    ensures opening { IfOk result (λ x. IsOpening L.rules x.links x.state) }
-    ensures read { IfOk result (λ x. IfSome (K.tables place keeper) (λ rows. IsRead rows x.state)) }
+    ensures opening { IfOk result (λ x. IsOpening L.rules x.links x.state.value) }
+    ensures read { IfOk result (λ x. IfSome (K.tables place keeper) (λ rows. IsRead rows x.state.value)) }
     ensures rule { IfOk result (λ x. IfSome orphans (λ rule. x.store.orphans ≡ rule)) }
-    ensures kept { IfOk result (λ x. orphans ≡ None → IfSome (K.tables place keeper) (λ rows. HasRule rows x.store.orphans x.state)) }
-    ensures rows { IfOk result (λ x. x.store.rows ≡ stored x.store.orphans x.state) }
+    ensures kept { IfOk result (λ x. orphans ≡ None → IfSome (K.tables place keeper) (λ rows. HasRule rows x.store.orphans x.state.value)) }
+    ensures rows { IfOk result (λ x. x.store.rows ≡ stored x.store.orphans x.state.value) }
     ensures told { IfOk result (λ x. Are (K.tables x.store.place x.store.keeper) (texts_of x.store.rows)) }
     ensures place { IfOk result (λ x. x.store.place ≡ place) }
     ensures later { IfOk result (λ x. K.faults keeper ≤ K.faults x.store.keeper) }

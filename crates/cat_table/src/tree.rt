@@ -410,6 +410,26 @@ impl<A: Drop> Tree<A> {
         }
     }
 
+    // The tree of a fork with another left side, which may have an item more or less than the one that is there.
+    fn with_left(alloc: Global, left: Tree<A>, fork: &Fork<A>) -> Result<Tree<A>, AllocError>
+        requires room { length left + length fork.now.right < MOST }
+        requires near { NearBalance (length left) (length fork.now.right) }
+        ensures { IfOk result (λ t. t ≡ left ++ arc_value fork.now.item ∷ fork.now.right) }
+    {
+        let right = fork.right.share()?;
+        Tree::join(alloc, left, Arc::try_clone(&fork.item)?, right)
+    }
+
+    // The tree of a fork with another right side, which may have an item more or less than the one that is there.
+    fn with_right(alloc: Global, fork: &Fork<A>, right: Tree<A>) -> Result<Tree<A>, AllocError>
+        requires room { length fork.now.left + length right < MOST }
+        requires near { NearBalance (length fork.now.left) (length right) }
+        ensures { IfOk result (λ t. t ≡ fork.now.left ++ arc_value fork.now.item ∷ right) }
+    {
+        let left = fork.left.share()?;
+        Tree::join(alloc, left, Arc::try_clone(&fork.item)?, right)
+    }
+
     #[tactic(auto, using(crate::proofs::Sides::insert_after))]
     /// The tree with the item put in at a place, before what stands there.
     pub fn with_inserted(
@@ -428,20 +448,10 @@ impl<A: Drop> Tree<A> {
                 let before = fork.left.len();
                 if place <= before {
                     let left = fork.left.with_inserted(alloc, place, item)?;
-                    Tree::join(
-                        alloc,
-                        left,
-                        Arc::try_clone(&fork.item)?,
-                        fork.right.share()?,
-                    )
+                    Tree::with_left(alloc, left, fork)
                 } else {
                     let right = fork.right.with_inserted(alloc, place - before - 1, item)?;
-                    Tree::join(
-                        alloc,
-                        fork.left.share()?,
-                        Arc::try_clone(&fork.item)?,
-                        right,
-                    )
+                    Tree::with_right(alloc, fork, right)
                 }
             }
         }
@@ -464,22 +474,12 @@ impl<A: Drop> Tree<A> {
                 let before = fork.left.len();
                 if place < before {
                     let left = fork.left.with_replaced(alloc, place, item)?;
-                    Tree::fork(
-                        alloc,
-                        left,
-                        Arc::try_clone(&fork.item)?,
-                        fork.right.share()?,
-                    )
+                    Tree::with_left(alloc, left, fork)
                 } else if place == before {
                     Tree::fork(alloc, fork.left.share()?, item, fork.right.share()?)
                 } else {
                     let right = fork.right.with_replaced(alloc, place - before - 1, item)?;
-                    Tree::fork(
-                        alloc,
-                        fork.left.share()?,
-                        Arc::try_clone(&fork.item)?,
-                        right,
-                    )
+                    Tree::with_right(alloc, fork, right)
                 }
             }
         }
@@ -541,12 +541,7 @@ impl<A: Drop> Tree<A> {
             Node::Fork(fork) => match fork.left.without_first(alloc)? {
                 None => Ok(Some((Arc::try_clone(&fork.item)?, fork.right.share()?))),
                 Some((first, left)) => {
-                    let rest = Tree::join(
-                        alloc,
-                        left,
-                        Arc::try_clone(&fork.item)?,
-                        fork.right.share()?,
-                    )?;
+                    let rest = Tree::with_left(alloc, left, fork)?;
                     Ok(Some((first, rest)))
                 }
             },
@@ -565,12 +560,7 @@ impl<A: Drop> Tree<A> {
                 let before = fork.left.len();
                 if place < before {
                     let left = fork.left.with_removed(alloc, place)?;
-                    Tree::join(
-                        alloc,
-                        left,
-                        Arc::try_clone(&fork.item)?,
-                        fork.right.share()?,
-                    )
+                    Tree::with_left(alloc, left, fork)
                 } else if place == before {
                     match fork.right.without_first(alloc)? {
                         None => fork.left.share(),
@@ -580,12 +570,7 @@ impl<A: Drop> Tree<A> {
                     }
                 } else {
                     let right = fork.right.with_removed(alloc, place - before - 1)?;
-                    Tree::join(
-                        alloc,
-                        fork.left.share()?,
-                        Arc::try_clone(&fork.item)?,
-                        right,
-                    )
+                    Tree::with_right(alloc, fork, right)
                 }
             }
         }

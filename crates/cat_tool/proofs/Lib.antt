@@ -3,15 +3,3 @@ pub mod Parted
 pub mod Ruled
 pub mod Sent
 pub mod Served
-pub mod Outputs
-pub mod Once
-pub mod Sums
-pub mod Within
-pub mod Narrow
-pub mod Opens
-pub mod Lasts
-pub mod Runs
-pub mod Requests
-pub mod Connected
-pub mod Lasting
-pub mod Left

@@ -4,4 +4,3 @@ pub mod Words
 pub mod Sessions
 pub mod Wires
 pub mod Mirrors
-pub mod Reached

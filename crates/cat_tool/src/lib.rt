@@ -5,18 +5,11 @@
 //! documents that they lead to, and for `sample` the line of a sample; `serve` ends well only where the doors have closed; for `session` and `wire`
 //! over a store it says what the store was opened as, and that the keeper follows; each status has its cause.
 //!
-//! Whatever a session of the real catalogue comes to can be stored and opened again, and so can whatever later runs over the same store come to
-//! (`law`, which has no code). Each state after any lines, under either rule for orphans, is such a state: a store that has its rows is never
-//! refused for a row. And so is each state that runs over one store come to, sessions and connections one after the other, whatever wasn't kept of
-//! them: the store that they wrote is never refused, and the next run begins with what its state opens again as.
-//!
 //! It stands on cat_session and cat_api, whose machines are the catalogue over the real layers of cat_layers, on cat_kept for commands over a store,
 //! on cat_wire and cat_io for the loops, the ends and how a command ends, on cat_doors, on cat_desk for a catalogue with its feed, on cat_host for a
-//! server, on cat_following for a mirror, on cat_sample, on cat_forms for the forms of all that a session keeps, on cat_model and cat_transcript for
-//! what events and lines keep, and on cat_renewed for what is asked of a state before a store with its rows must open.
+//! server, on cat_following for a mirror, on cat_sample, and on cat_model and cat_transcript for what events and lines keep.
 #![tactic(auto)]
 
-pub mod law;
 mod mirror;
 mod options;
 mod server;

@@ -65,11 +65,11 @@ fn kept_desk<C: Clock, K: Keeper>(
     opened: Opened<K>,
     mut clock: C,
 ) -> KeptDesk<Layered, C, K>
-    requires opening { IsOpening layered opened.links opened.state }
-    requires rows { opened.store.rows ≡ stored opened.store.orphans opened.state }
+    requires opening { IsOpening layered opened.links opened.state.value }
+    requires rows { opened.store.rows ≡ stored opened.store.orphans opened.state.value }
     requires told { Are (K.tables opened.store.place opened.store.keeper) (texts_of opened.store.rows) }
     ensures settings { result.catalogue.settings ≡ program_settings opened.store.orphans }
-    ensures state { result.catalogue.state ≡ opened.state }
+    ensures state { result.catalogue.state ≡ opened.state.value }
     ensures feed { result.feed ≡ begun (C.moment result.clock) }
     ensures ticks { C.ticks clock result.clock }
 {
@@ -154,8 +154,8 @@ fn serve_opened<
     doors: &mut D,
 ) -> Status
     requires crew { 0 < serving.connections }
-    requires opening { IsOpening layered opened.links opened.state }
-    requires rows { opened.store.rows ≡ stored opened.store.orphans opened.state }
+    requires opening { IsOpening layered opened.links opened.state.value }
+    requires rows { opened.store.rows ≡ stored opened.store.orphans opened.state.value }
     requires told { Are (K.tables opened.store.place opened.store.keeper) (texts_of opened.store.rows) }
     ensures closed { result.0 ≡ 0 → HaveClosed (D.closed doors.new) }
     ensures doors_fault { result.0 ≡ 7 → Rose (D.faults doors.old) (D.faults doors.new) }

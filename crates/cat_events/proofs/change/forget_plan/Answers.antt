@@ -1,7 +1,8 @@
-use Rattle.std.proofs.Common.{sym, subst}
+use Rattle.std.proofs.Common.{sym, ap, subst, ◌∙◌}
 use Rattle.cat_hold.specs.Linked.{AreLinked}
 use Rattle.cat_model.proofs.Changed.{sound_ready}
 use Rattle.cat_model.specs.Step.{forgotten}
+use Rattle.cat_claims.specs.declared.types.Claimed.{Claimed}
 use Rattle.cat_events.proofs.Owned.{forget_owned, forget_reached}
 use Rattle.cat_events.proofs.change.forget_plan.Goals as goal
 
@@ -10,7 +11,7 @@ claimed_by_entity-requires-clause-ready g c = sound_ready g.L.Layers.rules c.arg
 
 pub planned-requires-clause-reach : goal.planned-requires-clause-reach
 planned-requires-clause-reach g c =
-    forget_reached c.args.m.now c.args.reference.now c.in_ok-duplicate.field-0 c.in_ok-duplicate.ensures c.in_ok-claimed.claimed c.in_ok-claimed.ensures g.L.Layers.rules c.in_ok-touched.touched c.requires.sound c.in_ok-touched.ensures
+    forget_reached c.args.m.now c.args.reference.now c.in_ok-duplicate.field-0 c.in_ok-duplicate.ensures c.in_ok-claimed.claimed c.in_ok-claimed.ensures g.L.Layers.rules c.in_ok-touched.touched c.requires.sound (c.in_ok-touched.ensures ∙ ap (λ (k : Claimed). k.moved) c.deref.ensures)
 
 pub returns-clause-state : goal.returns-clause-state
 returns-clause-state g c =
@@ -21,4 +22,4 @@ pub returns-clause-linked : goal.returns-clause-linked
 returns-clause-linked g c =
     let n = forgotten c.args.reference.now c.args.m.now in
     let owned = forget_owned c.args.m.now c.args.reference.now c.in_ok-duplicate.field-0 c.in_ok-duplicate.ensures c.in_ok-claimed.claimed c.in_ok-claimed.ensures c.in_ok-touched.touched in
-    subst (AreLinked g.L.Layers.rules c.in_ok-plan.plan.following.links.after) (sym (c.in_ok-plan.ensures.state n owned)) (c.in_ok-plan.ensures.linked n owned)
+    subst (AreLinked g.L.Layers.rules c.in_ok-plan.plan.value.following.links.after) (sym (c.in_ok-plan.ensures.state n owned)) (c.in_ok-plan.ensures.linked n owned)

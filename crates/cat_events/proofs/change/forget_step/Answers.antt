@@ -8,7 +8,7 @@ use Rattle.cat_events.proofs.change.forget_step.Goals as goal
 pub returns-in_ok-plan-clause-come : goal.returns-in_ok-plan-clause-come
 returns-in_ok-plan-clause-come g c =
     let m = c.args.m.now in
-    forget_steps g.L.Layers.rules c.args.settings.now c.args.reference.now m (forgotten c.args.reference.now m) (planned c.in_ok-plan.plan m) (seen c.unless_spent-o.result m) (sym c.is_known.ensures ∙ c.if-is_known.true)
+    forget_steps g.L.Layers.rules c.args.settings.now c.args.reference.now m (forgotten c.args.reference.now m) (planned c.in_ok-plan.plan.value m) (seen c.unless_spent-o.result m) (sym c.is_known.ensures ∙ c.if-is_known.true)
     refl c.in_ok-plan.ensures.state c.unless_spent-o.ensures.seen
 
 pub returns-in_ok-plan-clause-linked : goal.returns-in_ok-plan-clause-linked

@@ -12,7 +12,7 @@ shelf_plan-requires-clause-one g c = subst (DifferAt c.args.name.now c.args.m.no
 pub returns-in_ok-plan-clause-come : goal.returns-in_ok-plan-clause-come
 returns-in_ok-plan-clause-come g c =
     let m = c.args.m.now in
-    drop_steps g.L.Layers.rules c.args.settings.now c.args.name.now m (with_shelf c.in_ok-shelf.shelf m) (planned c.in_ok-plan.plan m) (seen c.unless_spent-o.result m) (sym c.has_name.ensures ∙ c.if-has_name.true)
+    drop_steps g.L.Layers.rules c.args.settings.now c.args.name.now m (with_shelf c.in_ok-shelf.shelf m) (planned c.in_ok-plan.plan.value m) (seen c.unless_spent-o.result m) (sym c.has_name.ensures ∙ c.if-has_name.true)
     (ap (λ t. with_shelf t m) c.in_ok-shelf.ensures) c.in_ok-plan.ensures.state c.unless_spent-o.ensures.seen
 
 pub returns-in_ok-plan-clause-linked : goal.returns-in_ok-plan-clause-linked

@@ -15,4 +15,4 @@ pub returns-clause-linked : goal.returns-clause-linked
 returns-clause-linked g c =
     let n = with_shelf c.args.shelf c.args.m.now in
     let owned = shelf_owned g.L.Layers.rules c.args.m.now c.requires.steady.sound c.args.shelf c.in_ok-touched.touched in
-    subst (AreLinked g.L.Layers.rules c.in_ok-plan.plan.following.links.after) (sym (c.in_ok-plan.ensures.state n owned)) (c.in_ok-plan.ensures.linked n owned)
+    subst (AreLinked g.L.Layers.rules c.in_ok-plan.plan.value.following.links.after) (sym (c.in_ok-plan.ensures.state n owned)) (c.in_ok-plan.ensures.linked n owned)

@@ -15,6 +15,6 @@ returns c issues =
     let order = c.as_slice.ensures ∙ c.in_ok-order.ensures in
     record {
       claimed = claimed;
-      are = subst (λ l. IsClaimed claimed c.args.m.now.holders (replaced (Entity c.args.own.reference) (get c.args.output.now.offers) l c.args.m.now)) order c.in_ok-claimed.ensures;
-      is = ap change (c.in_ok-touched.ensures ∙ ap (λ l. claimed.moved ++ l) (c.as_slice-2.ensures ∙ c.in_ok-order.ensures));
+      are = subst (λ l. IsClaimed claimed.value c.args.m.now.holders (replaced (Entity c.args.own.reference) (get c.args.output.now.offers) l c.args.m.now)) order c.in_ok-claimed.ensures;
+      is = ap change (c.in_ok-touched.ensures ∙ (λ i. (c.deref.ensures i).moved ++ (c.as_slice-2.ensures ∙ c.in_ok-order.ensures) i));
     }

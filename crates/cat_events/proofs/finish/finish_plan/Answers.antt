@@ -49,4 +49,4 @@ returns-clause-linked g c =
     let facts =
     result_owned c.args.settings.now r c.args.now c.args.kept.now c.outcome-outcome.result.now m own same (ap Some c.in_ok-record_finished.ensures)
     rules c.leaving.result c.in_ok-change.change c.requires.steady.sound c.requires.there c.in_ok-change.ensures in
-    subst (AreLinked rules c.in_ok-plan.plan.following.links.after) (sym (c.in_ok-plan.ensures.state n facts.0)) (c.in_ok-plan.ensures.linked n facts.0)
+    subst (AreLinked rules c.in_ok-plan.plan.value.following.links.after) (sym (c.in_ok-plan.ensures.state n facts.0)) (c.in_ok-plan.ensures.linked n facts.0)

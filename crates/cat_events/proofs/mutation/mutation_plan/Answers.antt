@@ -44,4 +44,4 @@ returns-clause-linked g c =
     let owned =
     mutation_owned c.args.p.now c.args.x.now c.args.m.now c.in_ok-items.items (c.in_ok-items.ensures ∙ ap (λ (s : ProviderInputs). items_after c.args.x.now s.items) c.in_ok-source.ensures)
     c.in_ok-own.own c.in_ok-own.ensures in
-    subst (AreLinked g.L.Layers.rules c.in_ok-plan.plan.following.links.after) (sym (c.in_ok-plan.ensures.state n owned)) (c.in_ok-plan.ensures.linked n owned)
+    subst (AreLinked g.L.Layers.rules c.in_ok-plan.plan.value.following.links.after) (sym (c.in_ok-plan.ensures.state n owned)) (c.in_ok-plan.ensures.linked n owned)

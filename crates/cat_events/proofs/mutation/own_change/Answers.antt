@@ -18,6 +18,6 @@ returns c =
     let order = c.as_slice.ensures ∙ c.in_ok-order.ensures in
     record {
       claimed = claimed;
-      are = subst (λ l. IsClaimed claimed c.args.m.now.holders (replaced (Provider c.args.p.now) (get c.args.items) l c.args.m.now)) order c.in_ok-claimed.ensures;
-      is = λ i. change (c.in_ok-providers.ensures i) ((c.in_ok-touched.ensures ∙ ap (λ l. claimed.moved ++ l) (c.as_slice-2.ensures ∙ c.in_ok-order.ensures)) i);
+      are = subst (λ l. IsClaimed claimed.value c.args.m.now.holders (replaced (Provider c.args.p.now) (get c.args.items) l c.args.m.now)) order c.in_ok-claimed.ensures;
+      is = λ i. change (c.in_ok-providers.ensures i) ((c.in_ok-touched.ensures ∙ (λ j. (c.deref.ensures j).moved ++ (c.as_slice-2.ensures ∙ c.in_ok-order.ensures) j)) i);
     }

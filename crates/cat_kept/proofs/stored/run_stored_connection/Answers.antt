@@ -32,7 +32,7 @@ returns-in-Ok-clause-kept g c =
         rule_kept = λ none. subst (λ (l : Ledger). IfSome (g.K.Keeper.tables c.args.place c.args.keeper) (λ rows. HasRule rows l.settings.orphans l.state)) (sym is.catalogue) (e.kept none);
         read = subst (λ m. IfSome (g.K.Keeper.tables c.args.place c.args.keeper) (λ rows. IsRead rows m)) state e.read;
         opens = subst (λ m. IfSome (g.K.Keeper.tables c.args.place c.args.keeper) (λ rows. OpensAs layered rows m)) state
-            (told_opens layered c.in-Ok.opened.state e.opening.tells e.opening.tells_first e.opening.again (g.K.Keeper.tables c.args.place c.args.keeper) e.read);
+            (told_opens layered c.in-Ok.opened.state.value e.opening.tells e.opening.tells_first e.opening.again (g.K.Keeper.tables c.args.place c.args.keeper) e.read);
         sound = subst (Sound layered) state e.opening.steady.sound;
       };
       ran = (c.kept_connection-end.result, c.from.ensures, c.kept_connection-end.ensures.outcome, c.kept_connection-end.ensures.transcript);

@@ -1,18 +1,21 @@
-use Rattle.std.proofs.Common.{inl, subst}
+use Rattle.std.proofs.Common.{◌≡◌, inl, subst}
 use Rattle.std.specs.Prelude.{MatchOption}
 use Rattle.cat_opening.specs.Candidate.{IsCandidate}
 use Rattle.cat_opening.specs.Read.{AreNoTexts}
+use Rattle.cat_tables.specs.Opened.{is_first, rows_in}
+use Rattle.cat_tables.specs.Stored.{texts_of}
+use Rattle.cat_store.specs.Boxed.{unboxed}
 use Rattle.cat_store.proofs.Naming.{named_after}
 use Rattle.cat_store.proofs.open.difference.Goals as goal
 
 pub returns-in_default : goal.returns-in_default
 returns-in_default c =
     let rows = c.args.rows.now in
-    inl (subst (λ v. MatchOption v (AreNoTexts rows) (IsCandidate rows)) c.in_default.is c.in_ok-found.ensures.read)
+    inl (subst (λ v. MatchOption v (AreNoTexts rows) (λ x. IsCandidate rows (unboxed x))) c.in_default.is c.in_ok-found.ensures)
 
 pub returns : goal.returns
 returns c =
     let rows = c.args.rows.now in
-    let found = c.in-Some.found in
-    let is : IsCandidate rows found = subst (λ v. MatchOption v (AreNoTexts rows) (IsCandidate rows)) c.in-Some.is c.in_ok-found.ensures.read in
-    named_after rows c.in_ok-told.told found is c.in_ok-told.ensures c.first_difference.result c.first_difference.ensures
+    let found = unboxed c.in-Some.found in
+    let is : IsCandidate rows found = subst (λ v. MatchOption v (AreNoTexts rows) (λ x. IsCandidate rows (unboxed x))) c.in-Some.is c.in_ok-found.ensures in
+    named_after rows c.in_ok-told.told found is (subst (λ m. c.in_ok-told.told ≡ texts_of (rows_in (is_first rows) found.rule m)) c.deref.ensures c.in_ok-told.ensures) c.first_difference.result c.first_difference.ensures

@@ -21,9 +21,9 @@ use Rattle.cat_io.specs.declared.line_loop.SessionEnd.TheVariants.{Whole, ReadFa
 use Rattle.cat_model.specs.Step.{reopened}
 use Rattle.cat_model.specs.declared.types.OrphanRule.{OrphanRule}
 use Rattle.cat_model.specs.declared.types.State.{State}
-use Rattle.cat_tool.specs.Reached.{AreLasting, IsLasting, kept_over, wired_over}
-use Rattle.cat_tool.specs.Reached.IsLasting.{runs, serves, reopens}
-use Rattle.cat_tool.proofs.Lasting.{lasting_may_open}
+use Rattle.cat_openable.specs.Reached.{AreLasting, IsLasting, kept_over, wired_over}
+use Rattle.cat_openable.specs.Reached.IsLasting.{runs, serves, reopens}
+use Rattle.cat_openable.proofs.Lasting.{lasting_may_open}
 use Rattle.cat_renewed.specs.Right.{AreRowsOf}
 use Rattle.cat_renewed.specs.Told.{OpensAs}
 use Rattle.cat_transcript.specs.Program.{ruled_after}

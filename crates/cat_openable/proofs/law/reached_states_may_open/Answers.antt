@@ -1,10 +1,10 @@
 use Rattle.cat_layers.specs.Layered.{layered}
 use Rattle.cat_io.specs.Runs.{after_lines}
-use Rattle.cat_tool.specs.Reached.{reached}
+use Rattle.cat_openable.specs.Reached.{reached}
 use Rattle.cat_transcript.specs.Program.{program_settings, session_start}
 use Rattle.cat_transcript.specs.Session.{session_after}
-use Rattle.cat_tool.proofs.Opens.{lines_stand, may_open}
-use Rattle.cat_tool.proofs.law.reached_states_may_open.Goals as goal
+use Rattle.cat_openable.proofs.Opens.{lines_stand, may_open}
+use Rattle.cat_openable.proofs.law.reached_states_may_open.Goals as goal
 
 pub returns-clause-program : goal.returns-clause-program
 returns-clause-program c rule lines words =

@@ -22,9 +22,9 @@ use Rattle.cat_model.specs.declared.types.OrphanRule.{OrphanRule}
 use Rattle.cat_model.specs.declared.types.OrphanRule.TheVariants.{Keep}
 use Rattle.cat_model.specs.declared.types.Settings.{Settings}
 use Rattle.cat_model.specs.declared.types.State.{State}
-use Rattle.cat_tool.proofs.Once.{IsOnce}
-use Rattle.cat_tool.proofs.Opens.{Stands, settle_stands, start_stands, step_stands}
-use Rattle.cat_tool.proofs.Outputs.{due_are}
+use Rattle.cat_openable.proofs.Once.{IsOnce}
+use Rattle.cat_openable.proofs.Opens.{Stands, settle_stands, start_stands, step_stands}
+use Rattle.cat_openable.proofs.Outputs.{due_are}
 use Rattle.cat_tables.proofs.In.{none_some, same_some}
 use Rattle.cat_transcript.specs.Program.{program_settings}
 

@@ -1,8 +1,8 @@
 use Rattle.std.proofs.Common.{inl, inr, refl, subst, sym}
-use Rattle.cat_tool.specs.Reached.{IsLasting}
-use Rattle.cat_tool.specs.Reached.IsLasting.{reopens}
-use Rattle.cat_tool.proofs.Lasting.{lasting_may_open}
-use Rattle.cat_tool.proofs.law.lasting_stores_open.Goals as goal
+use Rattle.cat_openable.specs.Reached.{IsLasting}
+use Rattle.cat_openable.specs.Reached.IsLasting.{reopens}
+use Rattle.cat_openable.proofs.Lasting.{lasting_may_open}
+use Rattle.cat_openable.proofs.law.lasting_stores_open.Goals as goal
 
 pub returns-clause-opens : goal.returns-clause-opens
 returns-clause-opens c rule m is none = none m (lasting_may_open m is) (inl (rule, refl))

@@ -3,14 +3,14 @@ use Rattle.std.proofs.Common.{refl}
 use Rattle.cat_layers.specs.Layered.{layered}
 use Rattle.cat_model.specs.declared.types.OrphanRule.TheVariants.{Keep}
 use Rattle.cat_model.specs.declared.types.State.{State}
-use Rattle.cat_tool.proofs.Opens.{may_open}
-use Rattle.cat_tool.specs.Reached.{IsLasting, kept_over, wired_over}
-use Rattle.cat_tool.specs.Reached.IsLasting.{begins, runs, serves, reopens}
+use Rattle.cat_openable.proofs.Opens.{may_open}
+use Rattle.cat_openable.specs.Reached.{IsLasting, kept_over, wired_over}
+use Rattle.cat_openable.specs.Reached.IsLasting.{begins, runs, serves, reopens}
 use Rattle.cat_renewed.specs.Right.{MayOpen}
 use Rattle.cat_transcript.specs.Program.{program_settings}
-use Rattle.cat_tool.proofs.Lasts.{Lasts, reopened_lasts, start_lasts}
-use Rattle.cat_tool.proofs.Runs.{lines_last}
-use Rattle.cat_tool.proofs.Connected.{items_serve}
+use Rattle.cat_openable.proofs.Lasts.{Lasts, reopened_lasts, start_lasts}
+use Rattle.cat_openable.proofs.Runs.{lines_last}
+use Rattle.cat_openable.proofs.Connected.{items_serve}
 
 lasting : (m : State) → IsLasting m → Lasts m
 lasting m begins = start_lasts

@@ -1,5 +1,5 @@
-use Rattle.cat_tool.proofs.Left.{connection_leaves, session_leaves}
-use Rattle.cat_tool.proofs.law.runs_leave_lasting_stores.Goals as goal
+use Rattle.cat_openable.proofs.Left.{connection_leaves, session_leaves}
+use Rattle.cat_openable.proofs.law.runs_leave_lasting_stores.Goals as goal
 
 pub returns-clause-session : goal.returns-clause-session
 returns-clause-session c place rule rows status left left' written written' after faults m is are k = session_leaves place rule rows status left left' written written' after faults m is are k

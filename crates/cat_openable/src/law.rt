@@ -9,7 +9,7 @@ ghost use Rattle.cat_model.specs.Step.{reopened};
 ghost use Rattle.cat_model.specs.declared.types.OrphanRule.{OrphanRule};
 ghost use Rattle.cat_model.specs.declared.types.Settings.{Settings};
 ghost use Rattle.cat_model.specs.declared.types.State.{State};
-ghost use Rattle.cat_tool.specs.Reached.{AreLasting, IsLasting, reached};
+ghost use Rattle.cat_openable.specs.Reached.{AreLasting, IsLasting, reached};
 ghost use Rattle.cat_renewed.specs.Right.{AreOfNone, AreRowsOf, MayOpen};
 ghost use Rattle.cat_renewed.specs.Told.{OpensAs};
 ghost use Rattle.cat_kept.specs.Stores.{HasKept, HasKeptWire};

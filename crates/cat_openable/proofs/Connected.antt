@@ -17,8 +17,8 @@ use Rattle.cat_io.specs.Word as deeds
 use Rattle.cat_model.specs.Step.Event.{Mutate as Mutated, ShelfPut as PutOnShelf, ShelfDrop as DroppedFromShelf, Refresh as Refreshed, Forget as Forgotten, ForgetNumber as NumberForgotten, Take as Taken, Finish as Finished, PutStitch as StitchPut}
 use Rattle.cat_model.specs.declared.types.OrphanRule.{OrphanRule}
 use Rattle.cat_model.specs.declared.types.State.{State}
-use Rattle.cat_tool.proofs.Lasts.{Lasts, event_lasts, settle_lasts}
-use Rattle.cat_tool.proofs.Requests.{IsFormedDeed, IsFormedOperation, request_formed}
+use Rattle.cat_openable.proofs.Lasts.{Lasts, event_lasts, settle_lasts}
+use Rattle.cat_openable.proofs.Requests.{IsFormedDeed, IsFormedOperation, request_formed}
 use Rattle.cat_requests.specs.Requests.{request_of}
 use Rattle.cat_requests.specs.declared.refusal.Refusal.{Refusal}
 use Rattle.cat_requests.specs.declared.request.Request.{Request}

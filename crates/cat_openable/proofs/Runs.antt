@@ -28,7 +28,7 @@ use Rattle.cat_model.specs.declared.types.StitchOrder.{StitchOrder}
 use Rattle.cat_transcript.specs.Program.{program_settings, ruled_after}
 use Rattle.cat_transcript.specs.Session.{after_finish, after_place, after_reading, after_result, limit_of, order_numbered, session_after, with_stitch}
 use Rattle.cat_transcript.specs.declared.state.SessionState.{SessionState}
-use Rattle.cat_tool.proofs.Lasts.{Lasts, event_lasts, settle_lasts}
+use Rattle.cat_openable.proofs.Lasts.{Lasts, event_lasts, settle_lasts}
 
 module _ (rule : OrphanRule) where
   abbrev settings : Settings

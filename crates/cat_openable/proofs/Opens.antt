@@ -25,11 +25,11 @@ use Rattle.cat_transcript.specs.Program.{session_start}
 use Rattle.cat_transcript.specs.Session.{session_after}
 use Rattle.cat_transcript.proofs.Kept.{lines_kept}
 use Rattle.cat_forms.specs.Real.{real_forms}
-use Rattle.cat_tool.proofs.Narrow.{rows_narrow}
-use Rattle.cat_tool.proofs.Once.{IsOnce, result_once}
-use Rattle.cat_tool.proofs.Outputs.{AreAll, none_are, step_are}
-use Rattle.cat_tool.proofs.Sums.{left_bytes}
-use Rattle.cat_tool.proofs.Within.{IsWithin, step_stays}
+use Rattle.cat_openable.proofs.Narrow.{rows_narrow}
+use Rattle.cat_openable.proofs.Once.{IsOnce, result_once}
+use Rattle.cat_openable.proofs.Outputs.{AreAll, none_are, step_are}
+use Rattle.cat_openable.proofs.Sums.{left_bytes}
+use Rattle.cat_openable.proofs.Within.{IsWithin, step_stays}
 
 -- ---- what has a form of cat_layers has that which is asked before a store opens
 

@@ -1,0 +1,12 @@
+pub mod Outputs
+pub mod Once
+pub mod Sums
+pub mod Within
+pub mod Narrow
+pub mod Opens
+pub mod Lasts
+pub mod Runs
+pub mod Requests
+pub mod Connected
+pub mod Lasting
+pub mod Left
