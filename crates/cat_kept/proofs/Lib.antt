@@ -2,4 +2,3 @@ pub mod Lines
 pub mod Beyond
 pub mod Sound
 pub mod Serving
-pub mod Writing

@@ -5,7 +5,8 @@ use Rattle.cat_keeper.specs.Answers.{Stays}
 use Rattle.cat_keeper.specs.Store.{Rows}
 use Rattle.cat_keeper.specs.declared.keeper.Place.{Place}
 use Rattle.cat_model.specs.declared.types.OrphanRule.{OrphanRule}
-use Rattle.cat_kept.specs.Stores.{HasKept, IsRefused, IsUnopenable}
+use Rattle.cat_kept.specs.Stores.{HasKept}
+use Rattle.cat_unopened.specs.Unopened.{IsRefused, IsUnopenable}
 
 -- What stands outside of sessions: what the keeper tells of the place, the faults that it counted, what stands written, and the faults that the sink counted.
 pub record Outside : Type 0 where

@@ -32,4 +32,4 @@ mod stored;
 pub use connection::{KeptService, kept_connection};
 pub use kept::KeptSession;
 pub use sessions::sittings;
-pub use stored::{Ran, run_stored, run_stored_connection, unopened};
+pub use stored::{Ran, run_stored, run_stored_connection};

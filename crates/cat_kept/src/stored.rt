@@ -1,34 +1,30 @@
 //! A session, and a connection, over a store.
 
-ghost use Rattle.std.specs.Prelude.{◌≡◌, ◌≢◌, ◌≤◌, ◌⊎◌, IfOk, IfSome, Option};
-ghost use Rattle.std.specs.Io.KnownBytes.{Appends};
+ghost use Rattle.std.specs.Prelude.{◌≡◌, ◌≤◌, ◌⊎◌};
 ghost use Rattle.cat_feed.specs.Feed.{begun};
 ghost use Rattle.cat_io.specs.Causes.{Rose};
-ghost use Rattle.cat_io.specs.Sink.{AppendsFront};
 ghost use Rattle.cat_keeper.specs.Answers.{Are, Stays};
-ghost use Rattle.cat_keeper.specs.Store.{Rows};
 ghost use Rattle.cat_layers.specs.Layered.{layered};
-ghost use Rattle.cat_model.specs.declared.types.OrphanRule.TheVariants.{Keep};
 ghost use Rattle.cat_store.specs.Opened.{IsOpening};
-ghost use Rattle.cat_store.specs.Refused.{IsNamed, IsRefused as MayRefuse};
 ghost use Rattle.cat_tables.specs.Stored.{stored, texts_of};
 ghost use Rattle.cat_transcript.specs.Program.{program_settings};
-ghost use Rattle.cat_kept.specs.Stores.{HasKept, HasKeptWire, IsLineOf, IsRefused, IsUnopenable, refused_store, session_over};
+ghost use Rattle.cat_kept.specs.Stores.{HasKept, HasKeptWire, session_over};
+ghost use Rattle.cat_unopened.specs.Unopened.{IsRefused, IsUnopenable};
 
 use crate::{KeptService, KeptSession, kept_connection};
 use cat_api::service::Service;
 use cat_core::catalogue::Catalogue;
-use cat_io::{FixedClock, Sink, Source, write_all};
+use cat_io::{FixedClock, Sink, Source};
 use cat_keeper::keeper::{Keeper, Place};
-use cat_keeper::table::Table;
 use cat_kept_desk::KeptDesk;
 use cat_layers::layered::Layered;
 use cat_model::types::OrphanRule;
 use cat_session::Session;
-use cat_store::open::{OpenFault, Opened, open};
+use cat_store::open::{Opened, open};
 use cat_transcript::settings::{INPUT_LIMIT, settings};
+use cat_unopened::unopened;
 use cat_wire::{Status, answer_lines};
-use std::alloc::{AllocError, Global};
+use std::alloc::Global;
 
 /// How a command ended, and the keeper that it was given.
 #[derive(Drop)]
@@ -37,34 +33,6 @@ pub struct Ran<K> {
     pub status: Status,
     /// The keeper. Where it tells its tables, it holds those of the state in which a session over it ended.
     pub keeper: K,
-}
-
-// The line that names a row of a store.
-fn refusal(alloc: Global, table: Table, key: &str) -> Result<Vec<u8>, AllocError>
-    ensures { IfOk result (λ line. line.items ≡ refused_store table key.now) }
-{
-    let mut line = String::from_str(alloc, "refused store ")?;
-    line.push_str(table.name())?;
-    line.push_str(" ")?;
-    line.push_str(key)?;
-    line.push_str("\n")?;
-    Ok(line.into_bytes())
-}
-
-// Says which row of a store is refused. The status is 6, whether the sink failed or not, or 9 where memory lacked for the line.
-fn refuse<O: Sink>(alloc: Global, table: Table, key: &str, sink: &mut O) -> Status
-    ensures refused { result.0 ≡ 6 → IsLineOf table key.now (O.written sink.old) (O.written sink.new) (O.faults sink.old) (O.faults sink.new) }
-    ensures memory { result.0 ≡ 9 → sink.new ≡ sink.old }
-    ensures later { O.faults sink.old ≤ O.faults sink.new }
-    ensures ended { (result.0 ≡ 6) ⊎ (result.0 ≡ 9) }
-{
-    match refusal(alloc, table, key) {
-        Ok(line) => {
-            let _ = write_all(sink, line.as_slice());
-            Status(6)
-        }
-        Err(_) => Status(9),
-    }
 }
 
 // The session over what was opened.
@@ -104,24 +72,6 @@ fn service_of<'a, K: Keeper>(alloc: Global, opened: Opened<K>) -> KeptService<'a
     let catalogue = Catalogue::over(Layered, settings(store.orphans), state, links);
     let desk = KeptDesk::new(alloc, catalogue, FixedClock::at(0), 0, store);
     Service::new(alloc, desk)
-}
-
-/// Why a store can't be opened, as a status, with the line that names a row: 5 where the keeper failed, 6 where a row is named, and 9 for want of
-/// memory. Nothing else is written.
-pub fn unopened<O: Sink>(alloc: Global, fault: &OpenFault, sink: &mut O) -> Status
-    ensures refused { result.0 ≡ 6 → (told : Option Rows) → IfSome told (λ rows. IsNamed (program_settings Keep).input_limit rows fault.now)
-        → IsRefused told (O.written sink.old) (O.written sink.new) (O.faults sink.old) (O.faults sink.new) }
-    ensures unopenable { result.0 ≡ 6 → (told : Option Rows) → IfSome told (λ rows. MayRefuse layered (program_settings Keep).input_limit rows fault.now) → IsUnopenable told }
-    ensures keeper { result.0 ≡ 5 → fault.now ≡ OpenFault.Keeper }
-    ensures unwritten { result.0 ≢ 6 → sink.new ≡ sink.old }
-    ensures later { O.faults sink.old ≤ O.faults sink.new }
-    ensures ended { (result.0 ≡ 5) ⊎ ((result.0 ≡ 6) ⊎ (result.0 ≡ 9)) }
-{
-    match fault {
-        OpenFault::Keeper => Status(5),
-        OpenFault::Row(table, key) => refuse(alloc, *table, key.as_str(), sink),
-        OpenFault::NoMemory => Status(9),
-    }
 }
 
 /// Answers the lines of the source over the catalogue that the keeper has at a place, under this rule for orphans, or

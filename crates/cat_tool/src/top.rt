@@ -1,12 +1,14 @@
 //! The top call over the catalogue.
 
-ghost use Rattle.std.specs.Prelude.{◌≡◌, ◌≢◌, ℕ, List, [], true, Ok, Option, Some, None, ◌<◌, ◌≤◌, ◌^◌, ◌↔◌, ◌⊎◌, map, string_bytes};
+ghost use Rattle.std.specs.Prelude.{◌≡◌, ◌≢◌, ℕ, List, [], true, Ok, Option, Some, None, ◌≤◌, ◌↔◌, ◌⊎◌, map, string_bytes};
 ghost use Rattle.std.specs.Io.KnownBytes.{Appends};
 ghost use Rattle.cat_api.specs.Wire.{Wired, wire_after, wire_reply};
 ghost use Rattle.cat_commands.specs.Lines.{line_of};
 ghost use Rattle.cat_commands.specs.declared.line.Line.TheVariants.{Settle};
 ghost use Rattle.cat_doors.specs.Doors.{HaveClosed};
-ghost use Rattle.cat_feed.specs.Feed.{begun};
+ghost use Rattle.cat_fleeting.specs.Mirrors.{HasMirrored, MirrorsSome};
+ghost use Rattle.cat_fleeting.specs.Sessions.{reply_next, session_at, session_next};
+ghost use Rattle.cat_fleeting.specs.Wires.{wire_start};
 ghost use Rattle.cat_following.specs.declared.stop.Stop.TheVariants.{NoMemory};
 ghost use Rattle.cat_io.specs.Causes.{Rose};
 ghost use Rattle.cat_io.specs.Sink.{AppendsFront};
@@ -18,122 +20,41 @@ ghost use Rattle.cat_io.specs.Runs.{after_lines};
 ghost use Rattle.cat_io.specs.Word.{Word};
 ghost use Rattle.cat_model.specs.Fresh.{IsFresh, facts_of, fresh_docs};
 ghost use Rattle.cat_model.specs.Sound.{Quiet, Sound};
-ghost use Rattle.cat_model.specs.Step.{start};
 ghost use Rattle.cat_model.specs.declared.types.Counts.{Counts};
 ghost use Rattle.cat_model.specs.declared.types.OrphanRule.{OrphanRule};
 ghost use Rattle.cat_model.specs.declared.types.OrphanRule.TheVariants.{Delete, Keep};
 ghost use Rattle.cat_replies.specs.Events.{settled};
 ghost use Rattle.cat_sample.specs.Summary.{sample_line};
-ghost use Rattle.cat_tool.specs.Ended.{faults_left, tables_left};
-ghost use Rattle.cat_tool.specs.Mirrors.{HasMirrored, MirrorsSome};
-ghost use Rattle.cat_tool.specs.Sessions.{reply_next, session_at, session_next};
+ghost use Rattle.cat_server.specs.Ended.{faults_left, tables_left};
 ghost use Rattle.cat_wire.specs.Status.{HasRun, HasServed, HasTold};
-ghost use Rattle.cat_kept.specs.Stores.{HasKept, HasKeptWire, IsRefused, IsUnopenable};
-ghost use Rattle.cat_tool.specs.Wires.{wire_start};
-ghost use Rattle.cat_tool.specs.Words.{IsOverStore, command_of, place_of};
+ghost use Rattle.cat_kept.specs.Stores.{HasKept, HasKeptWire};
+ghost use Rattle.cat_words.specs.Words.{IsOverStore, command_of, place_of};
 ghost use Rattle.cat_wire.specs.declared.command.TheConstants.{USAGE};
-ghost use Rattle.cat_tool.specs.declared.options.Serving.{Serving};
+ghost use Rattle.cat_words.specs.declared.options.Serving.{Serving};
 ghost use Rattle.cat_transcript.specs.Inputs.{accepted_commands, inputs_fold, inputs_of};
 ghost use Rattle.cat_transcript.specs.Program.{program_settings, session_start};
 ghost use Rattle.cat_transcript.specs.Quiet.{IsAtRest};
 ghost use Rattle.cat_transcript.specs.Session.{session_after, session_reply};
 ghost use Rattle.cat_transcript.specs.declared.state.SessionState.{SessionState};
+ghost use Rattle.cat_unopened.specs.Unopened.{IsRefused, IsUnopenable};
 ghost use Rattle.cat_wire.specs.Worded.{HasWords};
 
-use crate::mirror::run_mirror;
-use crate::server::{Ended, run_serve, run_stored_serve};
-use crate::words::{Command, address_of, command_of, place_of};
-use cat_api::service::Service;
-use cat_core::catalogue::{Catalogue, Done, Stitched};
-use cat_desk::fed::Fed;
-use cat_desk::timed::Timed;
 use cat_doors::Doors;
-use cat_io::{Clock, FixedClock, Sink, Source};
+use cat_fleeting::{run_connection, run_mirror, run_session, tell_sample};
+use cat_io::{Clock, Sink, Source};
 use cat_keeper::keeper::Keeper;
 use cat_kept::law::kept_sessions_stay_sound;
 use cat_kept::{Ran, run_stored, run_stored_connection};
-use cat_layers::layered::Layered;
-use cat_model::types::OrphanRule;
-use cat_sample::sample;
-use cat_session::Session;
+use cat_server::{Ended, run_serve, run_stored_serve};
 use cat_transcript::law::{
     deleting_sessions_have_no_orphans, inputs_are_those_of_accepted_commands, sessions_stay_sound,
     settled_sessions_are_at_rest,
 };
-use cat_transcript::settings::settings;
-use cat_wire::{Status, answer_lines, answer_messages, tell, usage};
+use cat_wire::{Status, usage};
+use cat_words::{Command, address_of, command_of, place_of};
 use std::alloc::Global;
 use std::sync::Wait;
 use std::thread::Threads;
-
-// An empty catalogue under a rule for orphans, at the moment 0, with a feed of the epoch 0, as a service.
-fn empty_service<'a>(
-    alloc: Global,
-    orphans: OrphanRule,
-) -> Service<Done<'a, Layered>, Stitched<'a, Layered>, Fed<Layered, FixedClock>>
-    ensures catalogue { result.desk.timed.catalogue ≡ record { settings = program_settings orphans; state = start } }
-    ensures moment { result.desk.timed.clock.moment ≡ 0 }
-    ensures feed { result.desk.feed ≡ begun 0 }
-{
-    let catalogue = Catalogue::empty(alloc, Layered, settings(orphans));
-    let timed = Timed::new(catalogue, FixedClock::at(0));
-    Service::new(alloc, Fed::new(alloc, timed, 0))
-}
-
-// Answers the lines of the source over an empty catalogue, under a rule for orphans.
-fn run_session<S: Source, O: Sink>(
-    alloc: Global,
-    orphans: OrphanRule,
-    source: &mut S,
-    sink: &mut O,
-) -> Status
-    ensures ran { (end : SessionState) × HasRun (session_after layered (program_settings orphans)) (session_reply layered (program_settings orphans)) result.0
-        (S.left source.old) (S.left source.new) (O.written sink.old) (O.written sink.new) session_start end }
-    ensures read_fault { result.0 ≡ 3 → Rose (S.faults source.old) (S.faults source.new) }
-    ensures write_fault { result.0 ≡ 4 → Rose (O.faults sink.old) (O.faults sink.new) }
-    ensures memory { result.0 ≡ 9 → (source.new ≡ source.old) × (sink.new ≡ sink.old) }
-    ensures read_later { S.faults source.old ≤ S.faults source.new }
-    ensures write_later { O.faults sink.old ≤ O.faults sink.new }
-    ensures ended { (result.0 ≡ 0) ⊎ ((result.0 ≡ 3) ⊎ ((result.0 ≡ 4) ⊎ ((result.0 ≡ 9) ⊎ (result.0 ≡ 10)))) }
-{
-    let mut session = Session::new(alloc, Layered, Layered, orphans);
-    answer_lines(alloc, &mut session, source, sink)
-}
-
-// Answers the messages of one connection over an empty catalogue, under a rule for orphans.
-fn run_connection<S: Source, O: Sink>(
-    alloc: Global,
-    orphans: OrphanRule,
-    source: &mut S,
-    sink: &mut O,
-) -> Status
-    ensures served { (end : Wired) × HasServed (HasWords (wire_after layered) (wire_reply layered)) result.0
-        (S.left source.old) (S.left source.new) (O.written sink.old) (O.written sink.new) (wire_start orphans) end }
-    ensures read_fault { result.0 ≡ 3 → Rose (S.faults source.old) (S.faults source.new) }
-    ensures write_fault { result.0 ≡ 4 → Rose (O.faults sink.old) (O.faults sink.new) }
-    ensures memory { result.0 ≡ 9 → (source.new ≡ source.old) × (sink.new ≡ sink.old) }
-    ensures read_later { S.faults source.old ≤ S.faults source.new }
-    ensures write_later { O.faults sink.old ≤ O.faults sink.new }
-    ensures ended { (result.0 ≡ 0) ⊎ ((result.0 ≡ 3) ⊎ ((result.0 ≡ 4) ⊎ ((result.0 ≡ 9) ⊎ (result.0 ≡ 10)))) }
-{
-    let mut service = empty_service(alloc, orphans);
-    answer_messages(alloc, &mut service, source, sink)
-}
-
-// Makes a sample under the rule that keeps orphans, and writes its line, where there was memory for it.
-fn tell_sample<O: Sink>(alloc: Global, seed: u64, count: u64, sink: &mut O) -> Status
-    requires { seed < 2 ^ 31 }
-    ensures told { HasTold (sample_line layered (program_settings Keep) seed count) result.0 (O.written sink.old) (O.written sink.new) (O.faults sink.old) (O.faults sink.new) }
-    ensures memory { result.0 ≡ 9 → sink.new ≡ sink.old }
-    ensures write_fault { result.0 ≡ 4 → Rose (O.faults sink.old) (O.faults sink.new) }
-    ensures later { O.faults sink.old ≤ O.faults sink.new }
-    ensures ended { (result.0 ≡ 0) ⊎ ((result.0 ≡ 4) ⊎ (result.0 ≡ 9)) }
-{
-    match sample(alloc, Layered, settings(OrphanRule::Keep), seed, count) {
-        Ok(line) => tell(line.as_slice(), sink),
-        Err(_) => Status(9),
-    }
-}
 
 // A command that leaves the keeper alone ended so.
 fn whole<K>(status: Status, keeper: K) -> Ended<K>

@@ -1,6 +1,6 @@
 //! Words, and the commands that they are.
 use cat_model::types::OrphanRule;
-use cat_tool::{Command, Serving, command_of};
+use cat_words::{Command, Serving, command_of};
 use std::alloc::{AllocError, Global};
 use std::test::Fail;
 

@@ -1,7 +1,7 @@
 use Rattle.std.proofs.Common.{◌≡◌, Some, map, string_bytes}
-use Rattle.cat_tool.specs.Words.{command_of}
-use Rattle.cat_tool.specs.declared.words.Command.TheVariants.{Serve, Sample}
-use Rattle.cat_tool.proofs.Bounds.{samples_small, serves_some}
+use Rattle.cat_words.specs.Words.{command_of}
+use Rattle.cat_words.specs.declared.words.Command.TheVariants.{Serve, Sample}
+use Rattle.cat_words.proofs.Bounds.{samples_small, serves_some}
 use Rattle.cat_tool.proofs.top.run.Goals as goal
 
 pub run_serve-requires-clause-crew : goal.run_serve-requires-clause-crew
