@@ -27,11 +27,11 @@ use crate::questions::{
 };
 use crate::waiting::waiting_at;
 use cat_changes::change::{forget, shelf_drop, shelf_put};
+use cat_changes::given::{given_by, serial_of};
+use cat_changes::mutation::{last_serial, mutate};
 pub use cat_events::done::{Done, Stitched};
 use cat_events::finish::finish;
-use cat_changes::given::{given_by, serial_of};
 use cat_events::lease::refresh;
-use cat_changes::mutation::{last_serial, mutate};
 use cat_events::stitch::put_stitch;
 use cat_hold::hold::row_of;
 use cat_hold::layers::Layers;
@@ -130,8 +130,7 @@ impl<L: Layers> Saved<L> {
         ensures { result ≡ self.records }
     {
         let held = Box::into_inner(self.held);
-        let state = held.state;
-        state.records
+        held.state.into_records()
     }
 }
 

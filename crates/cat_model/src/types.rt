@@ -117,6 +117,29 @@ impl Drop for State {
     }
 }
 
+impl State {
+    /// The records of a state. All else is let go.
+    pub fn into_records(self) -> Records
+        ensures { result ≡ self.records }
+    {
+        let State {
+            providers: _,
+            shelf: _,
+            rows: _,
+            holders: _,
+            records,
+            orphans: _,
+            marks: _,
+            documents: _,
+            arrival: _,
+            number: _,
+            token: _,
+            ticket: _,
+        } = self;
+        records
+    }
+}
+
 /// The rows, and the next arrival.
 #[derive(Drop)]
 pub struct Numbered {
