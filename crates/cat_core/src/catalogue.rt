@@ -58,11 +58,21 @@ use std::marker::{Model, PhantomData};
 use std::mem;
 
 /// A catalogue over its lower layers. Beside its state it keeps what each kept output emits.
-#[derive(Drop)]
 pub struct Catalogue<L: Layers> {
     layers: L,
     ledger: Ledger,
     links: Links,
+}
+
+// Written out, and not derived: so the crates above let go of a catalogue by one call.
+impl<L: Layers + Drop> Drop for Catalogue<L> {
+    fn drop(self) {
+        let Catalogue {
+            layers: _,
+            ledger: _,
+            links: _,
+        } = self;
+    }
 }
 
 impl<L: Layers> Model for Catalogue<L> {
