@@ -12,7 +12,7 @@ use Rattle.cat_model.specs.declared.types.State.{State}
 use Rattle.cat_model.specs.Catalogue.{Rules}
 use Rattle.cat_model.specs.Sound.{AreBegun}
 use Rattle.cat_model.specs.Step.{Event, change, refusal, step}
-use Rattle.cat_model.proofs.Counters.{step_begun}
+use Rattle.cat_laws.proofs.Counters.{step_begun}
 use Rattle.cat_events.specs.Coming.{HasCome, IsSteady, came_fault, came_state, state_after}
 use Rattle.cat_events.specs.Stepped.{come_to, stepped}
 use Rattle.cat_events.specs.declared.stepped.Stepped.{Stepped}

@@ -15,8 +15,8 @@ use Rattle.cat_model.specs.Catalogue.{Rules}
 use Rattle.cat_model.specs.Reply.{counts}
 use Rattle.cat_model.specs.Settle.{not_begun, try_rounds, try_settle, width}
 use Rattle.cat_model.specs.Sound.{AreBegun, AreSmall, Quiet, Sound}
-use Rattle.cat_model.proofs.Stands.{settle_keeps}
-use Rattle.cat_model.proofs.Tried.{unstopped_quiet}
+use Rattle.cat_laws.proofs.Stands.{settle_keeps}
+use Rattle.cat_laws.proofs.Tried.{unstopped_quiet}
 use Rattle.cat_settle.specs.Part.{Came, IsCut, IsDone}
 use Rattle.cat_settle.proofs.Stays.{marks_stays, rounds_stays}
 use Rattle.cat_core.specs.Answer.{IsCause, IsSettled, IsWhole, core_fault, settle_answer, stop_answer}

@@ -18,8 +18,8 @@ use Rattle.cat_model.specs.Catalogue.{Ref, Rules, emits, output_of}
 use Rattle.cat_model.specs.Reply.{taken}
 use Rattle.cat_model.specs.Step.{Event, change, next_taken, refresh, refusal, step, take, take_next, with_record}
 use Rattle.cat_model.specs.Step.Event.{Refresh, Take}
-use Rattle.cat_model.proofs.Ordered.{step_ordered}
-use Rattle.cat_model.proofs.Steps.{step_kept, step_small}
+use Rattle.cat_laws.proofs.Ordered.{step_ordered}
+use Rattle.cat_laws.proofs.Steps.{step_kept, step_small}
 use Rattle.cat_events.specs.Coming.{HasCome, IsSteady, came_fault, came_state, state_after}
 use Rattle.cat_events.specs.Stepped.{come_to, stepped}
 use Rattle.cat_core.specs.declared.fault.CoreFault.{CoreFault}

@@ -26,12 +26,12 @@ use crate::questions::{
     counts_of, is_quiet, issues_of, number_of, rests, stitch_after, stitch_reply,
 };
 use crate::waiting::waiting_at;
-use cat_events::change::{forget, shelf_drop, shelf_put};
+use cat_changes::change::{forget, shelf_drop, shelf_put};
 pub use cat_events::done::{Done, Stitched};
 use cat_events::finish::finish;
-use cat_events::given::{given_by, serial_of};
+use cat_changes::given::{given_by, serial_of};
 use cat_events::lease::refresh;
-use cat_events::mutation::{last_serial, mutate};
+use cat_changes::mutation::{last_serial, mutate};
 use cat_events::stitch::put_stitch;
 use cat_hold::hold::row_of;
 use cat_hold::layers::Layers;

@@ -7,7 +7,7 @@ ghost use Rattle.cat_events.specs.Coming.{HasCome, IsSteady};
 ghost use Rattle.cat_events.specs.Stepped.{come_to};
 
 use crate::known::with_number;
-use cat_events::change::forget;
+use cat_changes::change::forget;
 use cat_hold::layers::Layers;
 use cat_links::links::Links;
 use cat_model::types::{Fault, Settings, State};

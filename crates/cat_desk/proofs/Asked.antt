@@ -1,6 +1,6 @@
 -- Whether the catalogue is quiet.
 use Rattle.std.proofs.Common.{◌≡◌, ◌↔◌, IsTrue, ℕ, Bool, true, false, refl, sym, true≢false}
-use Rattle.cat_model.proofs.Asked.{asked_quiet, quiet_asked}
+use Rattle.cat_laws.proofs.Asked.{asked_quiet, quiet_asked}
 use Rattle.cat_model.specs.Reply.{is_quiet}
 use Rattle.cat_model.specs.Sound.{Quiet}
 use Rattle.cat_model.specs.declared.types.State.{State}

@@ -12,8 +12,8 @@ use Rattle.cat_model.specs.declared.types.State.{State}
 use Rattle.cat_model.specs.Catalogue.{Rules}
 use Rattle.cat_model.specs.Sound.{AreOrdered, AreSmall, Sound}
 use Rattle.cat_model.specs.Step.{Event, change, refusal, step}
-use Rattle.cat_model.proofs.Ordered.{step_ordered}
-use Rattle.cat_model.proofs.Steps.{run_kept, step_small}
+use Rattle.cat_laws.proofs.Ordered.{step_ordered}
+use Rattle.cat_laws.proofs.Steps.{run_kept, step_small}
 use Rattle.cat_events.specs.Coming.{HasCome, IsLinkedStep, IsSteady, came_fault, came_state, links_after, links_in, seen, state_after}
 use Rattle.cat_events.specs.Stepped.{come_to, stepped}
 use Rattle.cat_events.specs.declared.stepped.Step.{Step}

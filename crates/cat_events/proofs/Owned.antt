@@ -30,7 +30,7 @@ use Rattle.cat_target.specs.Targets.{read_names}
 use Rattle.cat_model.proofs.Named.{reading_has}
 use Rattle.cat_model.specs.Sound.{Sound}
 use Rattle.cat_model.specs.Step.{finished_record, finished_rows, finished_state, forgotten, items_after, mutated_state, replaced, source_at, with_record}
-use Rattle.cat_model.proofs.Alone.{reheld_stays}
+use Rattle.cat_laws.proofs.Alone.{reheld_stays}
 use Rattle.cat_model.proofs.Frame.{same_option-is}
 use Rattle.cat_hold.specs.Following.{IsOwnChange, IsReach, held_state}
 use Rattle.cat_hold.specs.declared.change.Own.{Own}

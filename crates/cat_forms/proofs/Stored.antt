@@ -19,12 +19,12 @@ use Rattle.cat_model.specs.declared.types.Record.{Record}
 use Rattle.cat_model.specs.declared.types.Settings.{Settings}
 use Rattle.cat_model.specs.declared.types.State.{State}
 use Rattle.cat_model.specs.declared.types.StitchOrder.{StitchOrder}
-use Rattle.cat_model.proofs.Counters.{start_small}
-use Rattle.cat_model.proofs.Cut.{exec_extends, fits_settle}
-use Rattle.cat_model.proofs.Forms.{parts_form, start_form, step_form}
+use Rattle.cat_laws.proofs.Counters.{start_small}
+use Rattle.cat_laws.proofs.Cut.{exec_extends, fits_settle}
+use Rattle.cat_laws.proofs.Forms.{parts_form, start_form, step_form}
 use Rattle.cat_model.proofs.Frame.{same_option-is}
-use Rattle.cat_model.proofs.Plan.{exec_settle, settle_plan}
-use Rattle.cat_model.proofs.Steps.{start_kept, step_kept, step_small}
+use Rattle.cat_laws.proofs.Plan.{exec_settle, settle_plan}
+use Rattle.cat_laws.proofs.Steps.{start_kept, step_kept, step_small}
 
 at_cond : {A : Type 0} (P : A → Type 0) (b : Bool) (x y : A) → (b ≡ true → P x) → P y → P (cond b x y)
 at_cond P true x y p q = p refl

@@ -12,9 +12,9 @@ use Rattle.cat_desk.specs.Deed.Deed.{Mutate, ShelfPut, ShelfDrop, Refresh, Forge
 use Rattle.cat_desk.specs.declared.command.Reply.{Reply}
 use Rattle.cat_desk.specs.declared.command.Reply.TheVariants as replies
 use Rattle.cat_kept_desk.specs.Deeds.{is_keeper}
-use Rattle.cat_model.proofs.Asked.{taken_given}
-use Rattle.cat_model.proofs.Stands.{settle_keeps}
-use Rattle.cat_model.proofs.Steps.{step_kept}
+use Rattle.cat_laws.proofs.Asked.{taken_given}
+use Rattle.cat_laws.proofs.Stands.{settle_keeps}
+use Rattle.cat_laws.proofs.Steps.{step_kept}
 use Rattle.cat_io.specs.Word.{Word, plain, memory, cut, unkept, cut_unkept}
 use Rattle.cat_model.specs.Catalogue.{Ref, Rules, frame}
 use Rattle.cat_model.specs.Given.{given}

@@ -29,7 +29,7 @@ use Rattle.cat_host.specs.contracts.shared.SharedDesk as SharedDesk
 use Rattle.cat_host.specs.declared.timed.TimedDesk as TimedDesk
 use Rattle.cat_host.specs.contracts.tells.BookTells.TheImpl as tells
 use Rattle.cat_host.proofs.SentStates.{known, state_send, links_send, Map-send, Map-sync}
-use Rattle.cat_host.proofs.SentTurns.{turns_sync, pass_send}
+use Rattle.cat_turns.proofs.SentTurns.{turns_sync, pass_send}
 
 -- ---- what was done
 

@@ -2,9 +2,9 @@
 use Rattle.std.proofs.Common.{◌≡◌, ◌⊎◌, inl, inr, ⊎_elim, ℕ, zero, suc, ◌+◌, ◌<◌, Bool, true, false, cond, List, [], ◌∷◌, refl, sym, subst, true≢false, arith}
 use Rattle.std.specs.declared.option.Option.{Option}
 use Rattle.std.specs.declared.option.Option.TheVariants.{None, Some}
-use Rattle.cat_model.proofs.Plan.{Plan, Tries, at_event, exec, exec_settle, exec_stopped, settle_plan, try_some}
-use Rattle.cat_model.proofs.Plan.Plan.{idle, act, look, both, begins}
-use Rattle.cat_model.proofs.Plan.Tries.{stopped, full, refused, acts}
+use Rattle.cat_laws.proofs.Plan.{Plan, Tries, at_event, exec, exec_settle, exec_stopped, settle_plan, try_some}
+use Rattle.cat_laws.proofs.Plan.Plan.{idle, act, look, both, begins}
+use Rattle.cat_laws.proofs.Plan.Tries.{stopped, full, refused, acts}
 use Rattle.cat_model.specs.Catalogue.{Ref, Rules}
 use Rattle.cat_model.specs.Settle.{begun_round, by_ticket, due_refs, is_due, mark_order, not_begun, order, try_event, try_finish, try_round, try_rounds, try_settle, try_stitch_with, try_stitches, try_take_and_finish, try_turn, try_turns, width}
 use Rattle.cat_model.specs.Step.{Event}

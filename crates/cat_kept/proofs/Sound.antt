@@ -1,7 +1,7 @@
 -- A kept session stays sound.
 use Rattle.std.proofs.Common.{ℕ, Bool, true, false, if◌then◌else◌, List, [], ◌∷◌}
-use Rattle.cat_model.proofs.Stands.{settle_keeps}
-use Rattle.cat_model.proofs.Steps.{step_kept}
+use Rattle.cat_laws.proofs.Stands.{settle_keeps}
+use Rattle.cat_laws.proofs.Steps.{step_kept}
 use Rattle.cat_io.proofs.Keeping.{Keeps, after_lines-keeps}
 use Rattle.cat_io.specs.Runs.{after_lines}
 use Rattle.cat_io.specs.Word.{Word, plain, memory, cut, unkept, cut_unkept}

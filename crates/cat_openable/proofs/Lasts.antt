@@ -10,9 +10,9 @@ use Rattle.cat_table.proofs.Tables.{find-tabulate, text_antisymmetric, text_tota
 use Rattle.cat_types.specs.declared.parts.Parts.{Parts}
 use Rattle.cat_forms.proofs.Stored.{Holds, IsStored, settle_holds, start_holds, step_holds}
 use Rattle.cat_forms.specs.Real.{real_forms}
-use Rattle.cat_model.proofs.Counters.{reopened_begun, reopened_small}
-use Rattle.cat_model.proofs.Forms.{parts_form, reopened_form}
-use Rattle.cat_model.proofs.Reopened.{reopened_sound}
+use Rattle.cat_laws.proofs.Counters.{reopened_begun, reopened_small}
+use Rattle.cat_laws.proofs.Forms.{parts_form, reopened_form}
+use Rattle.cat_laws.proofs.Reopened.{reopened_sound}
 use Rattle.cat_layers.specs.Layered.{layered}
 use Rattle.cat_model.specs.Catalogue.{Ref, known_refs, parts}
 use Rattle.cat_model.specs.Formed.{IsFormedEvent}

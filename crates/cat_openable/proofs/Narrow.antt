@@ -32,7 +32,7 @@ use Rattle.cat_tables.specs.Told.{AreNarrow}
 use Rattle.cat_tables.specs.declared.version.Version.TheVariants.{Two}
 use Rattle.cat_tables.proofs.In.{In, found_in, from_flat, from_map, from_puts, in_all, none_some}
 use Rattle.cat_layers.specs.Layered.{layered}
-use Rattle.cat_model.proofs.Forms.{row_form}
+use Rattle.cat_laws.proofs.Forms.{row_form}
 use Rattle.cat_layers.proofs.Forms.{entity_is, offer_is}
 use Rattle.cat_renewed.proofs.Views.{by_parts}
 use Rattle.cat_forms.specs.Real.{real_forms}

@@ -10,9 +10,9 @@ use Rattle.cat_model.specs.Sound.{AreBegun, AreSmall, Sound}
 use Rattle.cat_model.specs.Step.{Event, run, step}
 use Rattle.cat_model.specs.declared.types.Settings.{Settings}
 use Rattle.cat_model.specs.declared.types.State.{State}
-use Rattle.cat_model.proofs.Counters.{start_begun, step_begun}
-use Rattle.cat_model.proofs.Forms.{row_form}
-use Rattle.cat_model.proofs.Stands.{settle_runs}
+use Rattle.cat_laws.proofs.Counters.{start_begun, step_begun}
+use Rattle.cat_laws.proofs.Forms.{row_form}
+use Rattle.cat_laws.proofs.Stands.{settle_runs}
 use Rattle.cat_layers.specs.Layered.{layered}
 use Rattle.cat_layers.specs.Forms.{IsOffer, IsProcessed}
 use Rattle.cat_layers.proofs.Forms.{entity_is, offer_is}

@@ -21,7 +21,7 @@ use Rattle.cat_model.specs.declared.types.Record.{Record}
 use Rattle.cat_model.specs.declared.types.Settings.{Settings}
 use Rattle.cat_model.specs.declared.types.State.{State}
 use Rattle.cat_tables.proofs.In.{none_some}
-use Rattle.cat_model.proofs.Steps.{get-without_key}
+use Rattle.cat_laws.proofs.Steps.{get-without_key}
 
 at_cond : {A : Type 0} (P : A → Type 0) (b : Bool) (x y : A) → P x → P y → P (cond b x y)
 at_cond P true x y p q = p

@@ -12,7 +12,7 @@ use Rattle.cat_model.specs.declared.types.Order.{Order}
 use Rattle.cat_model.specs.declared.types.Record.{Record}
 use Rattle.cat_model.specs.declared.types.Settings.{Settings}
 use Rattle.cat_model.specs.declared.types.State.{State}
-use Rattle.cat_model.proofs.Steps.{get-without_key, other_way}
+use Rattle.cat_laws.proofs.Steps.{get-without_key, other_way}
 use Rattle.cat_reached.specs.Reach.{AreSameInputs, AreSameTextsBut, gives_input}
 use Rattle.cat_reached.proofs.Stepped.{inputs_unchanged, at_cond, stepped}
 

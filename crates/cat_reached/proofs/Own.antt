@@ -18,7 +18,7 @@ use Rattle.cat_model.specs.declared.types.Record.{Record}
 use Rattle.cat_model.specs.declared.types.Settings.{Settings}
 use Rattle.cat_model.specs.declared.types.State.{State}
 use Rattle.cat_model.proofs.Holding.{stood}
-use Rattle.cat_model.proofs.Steps.{get-without_key, other_way}
+use Rattle.cat_laws.proofs.Steps.{get-without_key, other_way}
 use Rattle.cat_model.specs.Mend.{IsReady, IsReplaced}
 use Rattle.cat_model.proofs.Changed.{sound_ready, rows_after}
 use Rattle.cat_model.proofs.Members.{any_left, any_right}

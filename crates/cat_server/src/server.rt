@@ -25,7 +25,7 @@ use cat_io::{Clock, Sink};
 use cat_keeper::keeper::Keeper;
 use cat_kept_desk::KeptDesk;
 use cat_layers::layered::Layered;
-use cat_model::theorem::sound_is_kept;
+use cat_laws::theorem::sound_is_kept;
 use cat_model::types::OrphanRule;
 use cat_store::open::{Opened, open};
 use cat_transcript::settings::{INPUT_LIMIT, settings};

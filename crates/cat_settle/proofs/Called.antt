@@ -19,8 +19,8 @@ use Rattle.cat_model.specs.Settle.{try_event}
 use Rattle.cat_model.specs.Sound.{AreOrdered, AreSmall, Sound}
 use Rattle.cat_model.specs.Step.{Event, change, leased, refusal, step, take}
 use Rattle.cat_model.specs.Step.Event.{TakeAt}
-use Rattle.cat_model.proofs.Ordered.{step_ordered}
-use Rattle.cat_model.proofs.Steps.{run_kept, step_small}
+use Rattle.cat_laws.proofs.Ordered.{step_ordered}
+use Rattle.cat_laws.proofs.Steps.{run_kept, step_small}
 use Rattle.cat_events.specs.Coming.{IsSteady, came_fault, came_state}
 use Rattle.cat_events.specs.Stepped.{come_to, stepped}
 use Rattle.cat_events.specs.declared.stepped.Stepped.{Stepped}

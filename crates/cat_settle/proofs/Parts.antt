@@ -15,7 +15,7 @@ use Rattle.cat_model.specs.Catalogue.{Rules}
 use Rattle.cat_model.specs.Settle.{after_refusal, counted, is_full, try_event}
 use Rattle.cat_model.specs.Sound.{Sound}
 use Rattle.cat_model.specs.Step.{Event, change, refusal, step}
-use Rattle.cat_model.proofs.Steps.{run_kept}
+use Rattle.cat_laws.proofs.Steps.{run_kept}
 use Rattle.cat_events.specs.Stepped.{come_to, stepped}
 use Rattle.cat_events.specs.declared.stepped.Stepped.{Stepped}
 use Rattle.cat_settle.specs.Part.{Part, IsDone, IsCut, Came, Goes, moved}

@@ -9,7 +9,7 @@ use Rattle.cat_model.specs.declared.types.State.{State}
 use Rattle.cat_model.specs.Catalogue.{Rules}
 use Rattle.cat_model.specs.Settle.{is_ended, not_begun, try_marks, try_round, try_rounds, try_settle, width}
 use Rattle.cat_model.specs.Sound.{Sound}
-use Rattle.cat_model.proofs.Ended.{after_end, rounds_within}
+use Rattle.cat_laws.proofs.Ended.{after_end, rounds_within}
 use Rattle.cat_settle.specs.Part.{Came, CutRounds, EndRounds, Goes, IsCut, IsDone}
 use Rattle.cat_settle.proofs.Parts.{cut_then, done_then, same_cut}
 use Rattle.cat_settle.proofs.Stays.{marks_stays, rounds_stays}

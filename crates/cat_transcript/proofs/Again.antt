@@ -28,9 +28,9 @@ use Rattle.cat_model.specs.declared.types.Progress.{Progress}
 use Rattle.cat_model.specs.declared.types.Settings.{Settings}
 use Rattle.cat_model.specs.declared.types.State.{State}
 use Rattle.cat_model.specs.declared.types.StitchOrder.{StitchOrder}
-use Rattle.cat_model.proofs.Cut.{Extends, exec_extends, fits_settle, step_acts}
-use Rattle.cat_model.proofs.Plan.{exec_settle, settle_plan}
-use Rattle.cat_model.proofs.Repeats.{old_mutation, run_above}
+use Rattle.cat_laws.proofs.Cut.{Extends, exec_extends, fits_settle, step_acts}
+use Rattle.cat_laws.proofs.Plan.{exec_settle, settle_plan}
+use Rattle.cat_laws.proofs.Repeats.{old_mutation, run_above}
 use Rattle.cat_transcript.specs.declared.state.SessionState.{SessionState}
 use Rattle.cat_transcript.specs.Session.{after_finish, after_place, after_reading, after_result, limit_of, order_numbered, session_after, with_stitch}
 

@@ -19,8 +19,8 @@ use Rattle.cat_model.specs.declared.types.Record.{Record}
 use Rattle.cat_model.specs.declared.types.Settings.{Settings}
 use Rattle.cat_model.specs.declared.types.State.{State}
 use Rattle.cat_model.specs.declared.types.StitchOrder.{StitchOrder}
-use Rattle.cat_model.proofs.Cut.{Extends, exec_extends, fits_settle}
-use Rattle.cat_model.proofs.Plan.{exec_settle, settle_plan}
+use Rattle.cat_laws.proofs.Cut.{Extends, exec_extends, fits_settle}
+use Rattle.cat_laws.proofs.Plan.{exec_settle, settle_plan}
 use Rattle.cat_commands.specs.Lines.{line_of}
 use Rattle.cat_commands.specs.declared.fault.LineFault.{LineFault}
 use Rattle.cat_commands.specs.declared.fault.LineFault.TheVariants.{LongLine}

@@ -26,10 +26,10 @@ use Rattle.cat_model.specs.Step.Event.{Mutate, ShelfPut, ShelfDrop, Refresh, For
 use Rattle.cat_model.specs.Fresh.{facts_of, fresh_docs}
 use Rattle.cat_model.specs.Sound.{AreOrdered, Quiet, Sound}
 use Rattle.cat_model.specs.declared.types.OrphanRule.TheVariants.{Delete}
-use Rattle.cat_model.proofs.Ordered.{start_ordered, step_ordered}
-use Rattle.cat_model.proofs.Orphans.{just_fresh, settle_makes, settle_ordered, step_makes, still_none}
-use Rattle.cat_model.proofs.Stands.{settle_keeps}
-use Rattle.cat_model.proofs.Steps.{start_kept, step_kept}
+use Rattle.cat_laws.proofs.Ordered.{start_ordered, step_ordered}
+use Rattle.cat_laws.proofs.Orphans.{just_fresh, settle_makes, settle_ordered, step_makes, still_none}
+use Rattle.cat_laws.proofs.Stands.{settle_keeps}
+use Rattle.cat_laws.proofs.Steps.{start_kept, step_kept}
 use Rattle.cat_transcript.specs.Program.{session_start}
 use Rattle.cat_transcript.specs.declared.state.SessionState.{SessionState}
 use Rattle.cat_transcript.specs.Session.{after_finish, after_place, after_reading, after_result, limit_of, order_numbered, session_after, with_stitch}

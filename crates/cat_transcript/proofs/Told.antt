@@ -21,11 +21,11 @@ use Rattle.cat_model.specs.declared.types.Settings.{Settings}
 use Rattle.cat_model.specs.declared.types.State.{State}
 use Rattle.cat_model.specs.declared.types.Stop.{Stop}
 use Rattle.cat_model.specs.declared.types.Stop.TheVariants.{Refused, Limit}
-use Rattle.cat_model.proofs.Cut.{first_events-all, has_events}
-use Rattle.cat_model.proofs.Plan.{Plan, Tries, at_event, exec, exec_settle, settle_plan, try_some}
-use Rattle.cat_model.proofs.Plan.Plan.{idle, act, look, both, begins}
-use Rattle.cat_model.proofs.Plan.Tries.{stopped, full, refused, acts}
-use Rattle.cat_model.proofs.Stands.{settle_refused_by}
+use Rattle.cat_laws.proofs.Cut.{first_events-all, has_events}
+use Rattle.cat_laws.proofs.Plan.{Plan, Tries, at_event, exec, exec_settle, settle_plan, try_some}
+use Rattle.cat_laws.proofs.Plan.Plan.{idle, act, look, both, begins}
+use Rattle.cat_laws.proofs.Plan.Tries.{stopped, full, refused, acts}
+use Rattle.cat_laws.proofs.Stands.{settle_refused_by}
 use Rattle.cat_replies.specs.Events as say
 use Rattle.cat_transcript.specs.Session.{cut_reply, stop_reply}
 

@@ -43,7 +43,7 @@ use Rattle.cat_model.specs.declared.types.Settings.{Settings}
 use Rattle.cat_model.specs.declared.types.StitchOrder.{StitchOrder}
 use Rattle.cat_model.specs.declared.types.Stop.{Stop}
 use Rattle.cat_model.specs.declared.types.Stop.TheVariants.{Refused, Limit}
-use Rattle.cat_model.proofs.Tried.{unstopped_quiet}
+use Rattle.cat_laws.proofs.Tried.{unstopped_quiet}
 use Rattle.cat_replies.specs.Events as say
 use Rattle.cat_replies.specs.Faults as faults
 use Rattle.cat_transcript.proofs.Told.{cut_told, first, other_first, whole_told}

@@ -13,7 +13,7 @@ use cat_inputs::form::Form;
 use cat_inputs::input::read_mutation;
 use cat_io::FixedClock;
 use cat_layers::layered::Layered;
-use cat_model::theorem::sound_is_kept;
+use cat_laws::theorem::sound_is_kept;
 use cat_model::types::OrphanRule;
 use cat_query::ask::Ask;
 use cat_transcript::settings::settings;

@@ -11,6 +11,8 @@
 //! The rule that each step on the table keeps is `IsFair` (specs/Law.antt), and what a step tells the pass that makes it stands in
 //! specs/Steps.antt. A look at the ticket that is served takes the value out where it is the pass's own, and the store that serves
 //! the next puts it back; between them the value is the caller's alone.
+//! That turns may be seen by several threads, and a pass may go to another one, where the value may, is proved for whoever starts
+//! threads (proofs/SentTurns.antt).
 #![tactic(auto)]
 
 mod law;

@@ -6,7 +6,7 @@ use denote.RattleType.{RattleType}
 use denote.Ref.{NamedLft}
 use Rattle.cat_turns.specs.contracts.tells.U64Tells.TheImpl as tells
 use Rattle.cat_turns.specs.contracts.turns.Turns as Turns
-use Rattle.cat_host.proofs.SentTurns.{turns_sync, pass_send}
+use Rattle.cat_turns.proofs.SentTurns.{turns_sync, pass_send}
 use Rattle.gauge.specs.contracts.turns.Counter as Counter
 
 u64_send : IsSend u64

@@ -1,6 +1,6 @@
 use Rattle.cat_model.specs.declared.types.OrphanRule.TheVariants.{Keep}
 use Rattle.cat_model.specs.declared.types.Settings.{Settings}
-use Rattle.cat_model.proofs.Forms.{row_form, work_form, parts_form}
+use Rattle.cat_laws.proofs.Forms.{row_form, work_form, parts_form}
 use Rattle.cat_layers.specs.Layered.{layered}
 use Rattle.cat_layers.proofs.Forms.{offer_is, entity_is}
 use Rattle.cat_forms.specs.Real.{real_forms}

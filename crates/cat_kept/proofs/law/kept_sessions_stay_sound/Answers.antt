@@ -1,4 +1,4 @@
-use Rattle.cat_model.proofs.Fresh.{is_fresh}
+use Rattle.cat_laws.proofs.Fresh.{is_fresh}
 use Rattle.cat_kept.proofs.Sound.{lines_sound}
 use Rattle.cat_kept.proofs.law.kept_sessions_stay_sound.Goals as goal
 

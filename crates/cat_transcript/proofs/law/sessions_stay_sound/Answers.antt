@@ -1,5 +1,5 @@
-use Rattle.cat_model.proofs.Fresh.{is_fresh}
-use Rattle.cat_model.proofs.Steps.{start_kept}
+use Rattle.cat_laws.proofs.Fresh.{is_fresh}
+use Rattle.cat_laws.proofs.Steps.{start_kept}
 use Rattle.cat_transcript.specs.Program.{session_start}
 use Rattle.cat_transcript.proofs.Kept.{lines_sound}
 use Rattle.cat_transcript.proofs.law.sessions_stay_sound.Goals as goal

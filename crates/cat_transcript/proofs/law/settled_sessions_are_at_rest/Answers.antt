@@ -1,6 +1,6 @@
 use Rattle.std.proofs.Common.{sym, subst}
 use Rattle.cat_model.specs.Sound.{Sound}
-use Rattle.cat_model.proofs.Steps.{start_kept}
+use Rattle.cat_laws.proofs.Steps.{start_kept}
 use Rattle.cat_transcript.specs.Program.{session_start}
 use Rattle.cat_transcript.proofs.Kept.{lines_sound}
 use Rattle.cat_transcript.proofs.Words.{settled_quiet}

@@ -1,7 +1,7 @@
 use Rattle.std.proofs.Common.{sym, subst}
 use Rattle.cat_model.specs.Fresh.{IsFresh}
 use Rattle.cat_model.specs.Sound.{Quiet}
-use Rattle.cat_model.proofs.Fresh.{is_fresh}
+use Rattle.cat_laws.proofs.Fresh.{is_fresh}
 use Rattle.cat_core.proofs.catalogue.Catalogue.docs.Goals as goal
 
 pub returns-clause-fresh : goal.returns-clause-fresh

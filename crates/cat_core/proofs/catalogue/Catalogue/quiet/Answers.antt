@@ -1,6 +1,6 @@
 use Rattle.std.proofs.Common.{sym, subst, ◌∙◌}
 use Rattle.cat_model.specs.Sound.{Quiet}
-use Rattle.cat_model.proofs.Asked.{asked_quiet, quiet_asked}
+use Rattle.cat_laws.proofs.Asked.{asked_quiet, quiet_asked}
 use Rattle.cat_core.proofs.catalogue.Catalogue.quiet.Goals as goal
 
 pub returns : goal.returns
