@@ -27,11 +27,21 @@ type Moments = Owned<(u64, Ref), ()>;
 /// Records by reference. Contracts see them in order of reference. They are kept by the moments from which they are due, too,
 /// so that the one which a take leases is found without a look at those that are due later, and by the moments at which their
 /// leases lapse, 0 for those that have none, so that live leases are counted without a look at any.
-#[derive(Drop)]
 pub struct Records {
     entries: Owned<Ref, Record>,
     dues: Moments,
     lapses: Moments,
+}
+
+// Written out, and not derived: so the crates above let go of records by one call.
+impl Drop for Records {
+    fn drop(self) {
+        let Records {
+            entries: _,
+            dues: _,
+            lapses: _,
+        } = self;
+    }
 }
 
 impl Model for Records {

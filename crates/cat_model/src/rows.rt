@@ -26,12 +26,23 @@ type Index<K> = Map<K, Map<u64, ()>>;
 
 /// Rows by arrival, and their arrivals by entity, by reference, and by the shelf names that their descriptors may read. Contracts
 /// see the rows, in order of arrival. A copy shares the rows with what it was made of, and takes no memory.
-#[derive(Drop)]
 pub struct IndexedRows {
     rows: Map<u64, Row>,
     by_entity: Index<Ref>,
     by_reference: Index<Ref>,
     by_name: Index<Text>,
+}
+
+// Written out, and not derived: so the crates above let go of rows by one call.
+impl Drop for IndexedRows {
+    fn drop(self) {
+        let IndexedRows {
+            rows: _,
+            by_entity: _,
+            by_reference: _,
+            by_name: _,
+        } = self;
+    }
 }
 
 impl Model for IndexedRows {

@@ -82,7 +82,6 @@ pub struct Orphan {
 }
 
 /// A catalogue. Rows stand by arrival, all else by provider, name or reference; the last four are the next numbers to be drawn.
-#[derive(Drop)]
 pub struct State {
     pub providers: Map<Text, ProviderInputs>,
     pub shelf: Map<Text, Text>,
@@ -96,6 +95,26 @@ pub struct State {
     pub number: u64,
     pub token: u64,
     pub ticket: u64,
+}
+
+// Written out, and not derived: so the crates above let go of a state by one call.
+impl Drop for State {
+    fn drop(self) {
+        let State {
+            providers: _,
+            shelf: _,
+            rows: _,
+            holders: _,
+            records: _,
+            orphans: _,
+            marks: _,
+            documents: _,
+            arrival: _,
+            number: _,
+            token: _,
+            ticket: _,
+        } = self;
+    }
 }
 
 /// The rows, and the next arrival.

@@ -14,9 +14,15 @@ use std::alloc::{AllocError, Global};
 use std::marker::Model;
 
 /// Entries by key. Contracts see the list of keys with values, in order of the keys, each once.
-#[derive(Drop)]
 pub struct Owned<K: Key, X> {
     tree: Boxed<(K, X)>,
+}
+
+// Written out, and not derived: so the crates above let go of a map by one call.
+impl<K: Key + Drop, X: Drop> Drop for Owned<K, X> {
+    fn drop(self) {
+        let Owned { tree: _ } = self;
+    }
 }
 
 impl<K: Key, X> Model for Owned<K, X> {

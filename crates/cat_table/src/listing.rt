@@ -9,9 +9,15 @@ use std::marker::Model;
 use std::slice;
 
 /// Items in order. Contracts see the list of them.
-#[derive(Drop)]
 pub struct Listing<X> {
     items: Vec<X>,
+}
+
+// Written out, and not derived: so the crates above let go of a list by one call.
+impl<X: Drop> Drop for Listing<X> {
+    fn drop(self) {
+        let Listing { items: _ } = self;
+    }
 }
 
 impl<X> Model for Listing<X> {
@@ -43,7 +49,8 @@ impl<X> Listing<X> {
     pub fn into_vec(self) -> Vec<X>
         ensures { result.items ≡ self }
     {
-        self.items
+        let Listing { items } = self;
+        items
     }
 
     /// How many items there are.

@@ -18,9 +18,15 @@ use std::sync::Arc;
 
 /// Entries by key. Contracts see the list of keys with values, in order of the keys, each once. A copy shares the entries
 /// with what it was made of, and takes no memory.
-#[derive(Drop)]
 pub struct Map<K: Key, X> {
     tree: Tree<(K, X)>,
+}
+
+// Written out, and not derived: so the crates above let go of a map by one call.
+impl<K: Key + Drop, X: Drop> Drop for Map<K, X> {
+    fn drop(self) {
+        let Map { tree: _ } = self;
+    }
 }
 
 impl<K: Key, X> Model for Map<K, X> {

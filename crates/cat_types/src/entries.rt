@@ -5,6 +5,7 @@ ghost use Rattle.std.specs.Ordering.{ordering_reverse};
 ghost use Rattle.cat_table.specs.Rows.{IsAt, IsBetween};
 ghost use Rattle.cat_table.specs.Table.{find, keys};
 
+use crate::sorted::append;
 use cat_table::key::Key;
 use cat_table::listing::{Copied, Listing};
 use cat_table::map::rise;
@@ -14,11 +15,20 @@ use std::marker::Model;
 
 /// Entries by key, in the order in which they are given. Contracts see the list of keys with values. Where the keys rise, which
 /// the entries know, a key is found by halving.
-#[derive(Drop)]
 pub struct Entries<K: Key, X> {
     items: Vec<(K, X)>,
     // whether the keys are known to rise
     rising: bool,
+}
+
+// Written out, and not derived: so the crates above let go of entries by one call.
+impl<K: Key + Drop, X: Drop> Drop for Entries<K, X> {
+    fn drop(self) {
+        let Entries {
+            items: _,
+            rising: _,
+        } = self;
+    }
 }
 
 impl<K: Key, X> Model for Entries<K, X> {
@@ -35,11 +45,7 @@ impl<K: Key, X> Model for Entries<K, X> {
 impl<K: Key + Copied + Drop, X: Copied + Drop> Copied for Entries<K, X> {
     fn duplicate(&self, alloc: Global) -> Result<Entries<K, X>, AllocError> {
         let mut items = Vec::new(alloc);
-        for (key, value) in &self.items {
-            let key = key.duplicate(alloc)?;
-            let value = value.duplicate(alloc)?;
-            items.push((key, value))?;
-        }
+        append(alloc, &mut items, self.items.as_slice())?;
         Ok(Entries {
             items,
             rising: self.rising,

@@ -4,14 +4,14 @@ use cat_tree::text::Text;
 use std::alloc::{AllocError, Global};
 
 /// How grave an issue is.
-#[derive(Clone, Copy, Debug, Drop, PartialEq, Eq)]
+#[derive(Clone, Copy, Drop, PartialEq, Eq)]
 pub enum Level {
     Error,
     Warning,
 }
 
 /// What an issue is about.
-#[derive(Clone, Copy, Debug, Drop, PartialEq, Eq)]
+#[derive(Clone, Copy, Drop, PartialEq, Eq)]
 pub enum IssueName {
     /// A rule of the descriptor format is broken.
     SchemaFault,

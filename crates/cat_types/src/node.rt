@@ -7,9 +7,15 @@ use std::marker::Model;
 use std::sync::Arc;
 
 /// A tree with all that is below it, as data. Copies share the tree, so a copy costs no more for a large one.
-#[derive(Drop)]
 pub struct Node {
     tree: Arc<Tree, Global>,
+}
+
+// Written out, and not derived: so the crates above let go of a node by one call.
+impl Drop for Node {
+    fn drop(self) {
+        let Node { tree: _ } = self;
+    }
 }
 
 impl Model for Node {

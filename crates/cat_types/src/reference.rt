@@ -29,9 +29,15 @@ use std::sync::Arc;
 
 /// A kind, a namespace and a name of their forms, folded to lower case in ASCII. Contracts see the full
 /// text `kind:namespace/name`, by which references are ordered. Copies share it.
-#[derive(Drop)]
 pub struct Ref {
     text: Arc<Text, Global>,
+}
+
+// Written out, and not derived: so the crates above let go of a reference by one call.
+impl Drop for Ref {
+    fn drop(self) {
+        let Ref { text: _ } = self;
+    }
 }
 
 impl Model for Ref {

@@ -23,10 +23,16 @@ const MOST: u64 = 1 << 62;
 
 /// Items by reference. Contracts see the list of references with what is offered, in order of the references, each once. A copy shares
 /// the items with what it was made of, and takes no memory.
-#[derive(Drop)]
 pub struct OfferedItems {
     items: Map<Ref, Offered>,
     bytes: u64,
+}
+
+// Written out, and not derived: so the crates above let go of items by one call.
+impl Drop for OfferedItems {
+    fn drop(self) {
+        let OfferedItems { items: _, bytes: _ } = self;
+    }
 }
 
 impl Model for OfferedItems {

@@ -21,10 +21,19 @@ type Tickets = Map<(u64, Ref), ()>;
 
 /// Which references' documents have to be stitched again, each under the ticket of its mark. Contracts see the tickets by
 /// reference, in order. A copy shares all of it and takes no memory.
-#[derive(Drop)]
 pub struct Marks {
     marks: Map<Ref, u64>,
     by_ticket: Tickets,
+}
+
+// Written out, and not derived: so the crates above let go of marks by one call.
+impl Drop for Marks {
+    fn drop(self) {
+        let Marks {
+            marks: _,
+            by_ticket: _,
+        } = self;
+    }
 }
 
 impl Model for Marks {
