@@ -1,7 +1,7 @@
 //! The command that serves HTTP connections, over doors and a clock, beside workers.
 //!
-//! `run_serve` serves over an empty catalogue, and `run_stored_serve` over the one that a keeper has in a store, which follows it. Each listens at
-//! an address first, and ends with the doors.
+//! `run_server` serves over an empty catalogue, or over the one that a keeper has in a store, which follows it. It listens at an address first, and
+//! ends with the doors.
 //!
 //! It stands on cat_host for a catalogue that several have in turns, on cat_kept_desk for one that is kept, on cat_unopened for a store that can't be
 //! opened, on cat_words for how a server runs, and on cat_doors. It carries the promise that it ends well only where the doors have closed, that
@@ -10,4 +10,4 @@
 
 mod server;
 
-pub use server::{Ended, run_serve, run_stored_serve};
+pub use server::{Ended, run_server};

@@ -1,6 +1,6 @@
 //! The server, over doors and a clock.
 
-ghost use Rattle.std.specs.Prelude.{◌≡◌, ◌≢◌, ◌<◌, ◌≤◌, ◌⊎◌, map, string_bytes};
+ghost use Rattle.std.specs.Prelude.{◌≡◌, ◌≢◌, true, None, ◌<◌, ◌≤◌, ◌⊎◌, map, string_bytes};
 ghost use Rattle.cat_doors.specs.Doors.{HaveClosed, StayClosed};
 ghost use Rattle.cat_feed.specs.Feed.{begun};
 ghost use Rattle.cat_io.specs.Causes.{Rose};
@@ -109,9 +109,8 @@ fn serve<B: TimedDesk<Layered> + Drop + Send, D: Doors + Send, R: Threads + Wait
     }
 }
 
-/// Listens at an address, and serves the connections that come over an empty catalogue, with workers beside them, until the doors let
-/// in no more. The status is 0 where the doors have closed, 7 where they failed, and 9 where memory lacked before the first connection.
-pub fn run_serve<C: Clock + Drop + Send, D: Doors + Send, R: Threads + Wait + Sync>(
+// Listens at an address, and serves the connections that come over an empty catalogue. For want of memory the status is 9, before the first connection.
+fn run_serve<C: Clock + Drop + Send, D: Doors + Send, R: Threads + Wait + Sync>(
     rt: &R,
     alloc: Global,
     address: &str,
@@ -168,10 +167,9 @@ fn serve_opened<
     }
 }
 
-/// The same over the catalogue that the keeper has at the place that the words name, under the rule for orphans among them, or else under the
-/// stored one. The status is 5 where the keeper failed as the store was opened, and 6 where a row of the store has no reading or breaks a rule,
-/// which a line names; no address was listened at then.
-pub fn run_stored_serve<
+// The same over the catalogue that the keeper has at the place that the words name, under the rule for orphans among them, or else under the
+// stored one.
+fn run_stored_serve<
     O: Sink,
     C: Clock + Drop + Send,
     D: Doors + Send,
@@ -214,5 +212,49 @@ pub fn run_stored_serve<
             status: unopened(alloc, &fault, sink),
             keeper: Some(keeper),
         },
+    }
+}
+
+/// Listens at the address that the words name, and serves the connections that come over an empty catalogue, or over the one that the keeper has at the
+/// place that they name, with workers beside them, until the doors let in no more. The status is 0 where the doors have closed, 7 where they failed, 9 where
+/// memory lacked before the first connection, 5 where the keeper failed as the store was opened, and 6 where a row of the store has no reading or breaks a
+/// rule, which a line names; no address was listened at then.
+pub fn run_server<
+    O: Sink,
+    C: Clock + Drop + Send,
+    D: Doors + Send,
+    K: Keeper + Drop + Send,
+    R: Threads + Wait + Sync,
+>(
+    rt: &R,
+    alloc: Global,
+    words: &[String],
+    serving: Serving,
+    sink: &mut O,
+    clock: C,
+    doors: &mut D,
+    keeper: K,
+) -> Ended<K>
+    requires crew { 0 < serving.connections }
+    ensures closed { result.status.0 ≡ 0 → HaveClosed (D.closed doors.new) }
+    ensures doors_fault { result.status.0 ≡ 7 → Rose (D.faults doors.old) (D.faults doors.new) }
+    ensures doors_later { D.faults doors.old ≤ D.faults doors.new }
+    ensures same { (result.status.0 ≡ 5) ⊎ (result.status.0 ≡ 6) → Stays (K.tables (place_of (map string_bytes words.now)) keeper) (tables_left (K.tables (place_of (map string_bytes words.now))) result.keeper) }
+    ensures keeper_fault { result.status.0 ≡ 5 → Rose (K.faults keeper) (faults_left K.faults result.keeper) }
+    ensures refused { result.status.0 ≡ 6 → IsRefused (K.tables (place_of (map string_bytes words.now)) keeper) (O.written sink.old) (O.written sink.new) (O.faults sink.old) (O.faults sink.new) }
+    ensures unopenable { result.status.0 ≡ 6 → IsUnopenable (K.tables (place_of (map string_bytes words.now)) keeper) }
+    ensures over_store { (result.status.0 ≡ 5) ⊎ (result.status.0 ≡ 6) → serving.kept ≡ true }
+    ensures returned { result.keeper ≡ None → serving.kept ≡ true }
+    ensures unwritten { result.status.0 ≢ 6 → sink.new ≡ sink.old }
+    ensures write_later { O.faults sink.old ≤ O.faults sink.new }
+    ensures ended { (result.status.0 ≡ 0) ⊎ ((result.status.0 ≡ 5) ⊎ ((result.status.0 ≡ 6) ⊎ ((result.status.0 ≡ 7) ⊎ (result.status.0 ≡ 9)))) }
+{
+    if serving.kept {
+        run_stored_serve(rt, alloc, words, serving, sink, clock, doors, keeper)
+    } else {
+        Ended {
+            status: run_serve(rt, alloc, address_of(words), serving, clock, doors),
+            keeper: Some(keeper),
+        }
     }
 }

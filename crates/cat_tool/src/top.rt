@@ -40,18 +40,15 @@ ghost use Rattle.cat_unopened.specs.Unopened.{IsRefused, IsUnopenable};
 ghost use Rattle.cat_wire.specs.Worded.{HasWords};
 
 use cat_doors::Doors;
+use cat_fleeting::law::program_sessions_keep_their_laws;
 use cat_fleeting::{run_connection, run_mirror, run_session, tell_sample};
 use cat_io::{Clock, Sink, Source};
 use cat_keeper::keeper::Keeper;
 use cat_kept::law::kept_sessions_stay_sound;
-use cat_kept::{Ran, run_stored, run_stored_connection};
-use cat_server::{Ended, run_serve, run_stored_serve};
-use cat_transcript::law::{
-    deleting_sessions_have_no_orphans, inputs_are_those_of_accepted_commands, sessions_stay_sound,
-    settled_sessions_are_at_rest,
-};
+use cat_kept::{Ran, run_stored_by, run_stored_connection_by};
+use cat_server::{Ended, run_server};
 use cat_wire::{Status, usage};
-use cat_words::{Command, address_of, command_of, place_of};
+use cat_words::{Command, command_of};
 use std::alloc::Global;
 use std::sync::Wait;
 use std::thread::Threads;
@@ -71,6 +68,96 @@ fn given_back<K>(ran: Ran<K>) -> Ended<K>
     ensures { result ≡ record { status = ran.status; keeper = Some ran.keeper } }
 {
     whole(ran.status, ran.keeper)
+}
+
+// Runs the command that the words are.
+fn carried_out<
+    S: Source,
+    O: Sink,
+    C: Clock + Drop + Send,
+    D: Doors + Send,
+    K: Keeper + Drop + Send,
+    R: Threads + Wait + Sync,
+>(
+    rt: &R,
+    alloc: Global,
+    words: &[String],
+    source: &mut S,
+    sink: &mut O,
+    clock: C,
+    doors: &mut D,
+    keeper: K,
+) -> Ended<K>
+    ensures headline { (rule : OrphanRule) → command_of (map string_bytes words.now) ≡ Some (Command.Session rule) → (end : SessionState)
+        × HasRun (session_after layered (program_settings rule)) (session_reply layered (program_settings rule)) result.status.0
+        (S.left source.old) (S.left source.new) (O.written sink.old) (O.written sink.new) session_start end }
+    ensures stored { (rule : Option OrphanRule) → command_of (map string_bytes words.now) ≡ Some (Command.Stored rule)
+        → (result.status.0 ≡ 5) ⊎ ((result.status.0 ≡ 6) ⊎ (((result.status.0 ≡ 9) × Stays (K.tables (place_of (map string_bytes words.now)) keeper) (tables_left (K.tables (place_of (map string_bytes words.now))) result.keeper))
+        ⊎ HasKept (place_of (map string_bytes words.now)) rule (K.tables (place_of (map string_bytes words.now)) keeper) result.status.0
+        (S.left source.old) (S.left source.new) (O.written sink.old) (O.written sink.new) (λ place. tables_left (K.tables place) result.keeper) (faults_left K.faults result.keeper))) }
+    ensures connection { (rule : OrphanRule) → command_of (map string_bytes words.now) ≡ Some (Command.Wire rule) → (end : Wired)
+        × HasServed (HasWords (wire_after layered) (wire_reply layered)) result.status.0
+        (S.left source.old) (S.left source.new) (O.written sink.old) (O.written sink.new) (wire_start rule) end }
+    ensures stored_connection { (rule : Option OrphanRule) → command_of (map string_bytes words.now) ≡ Some (Command.StoredWire rule)
+        → (result.status.0 ≡ 5) ⊎ ((result.status.0 ≡ 6) ⊎ (((result.status.0 ≡ 9) × Stays (K.tables (place_of (map string_bytes words.now)) keeper) (tables_left (K.tables (place_of (map string_bytes words.now))) result.keeper))
+        ⊎ HasKeptWire (place_of (map string_bytes words.now)) rule (K.tables (place_of (map string_bytes words.now)) keeper) result.status.0
+        (S.left source.old) (S.left source.new) (O.written sink.old) (O.written sink.new) (λ place. tables_left (K.tables place) result.keeper) (faults_left K.faults result.keeper))) }
+    ensures sample { (seed count : ℕ) → command_of (map string_bytes words.now) ≡ Some (Command.Sample seed count)
+        → HasTold (sample_line layered (program_settings Keep) seed count) result.status.0 (O.written sink.old) (O.written sink.new) (O.faults sink.old) (O.faults sink.new) }
+    ensures mirrored { command_of (map string_bytes words.now) ≡ Some Command.Mirror
+        → HasMirrored result.status.0 (S.left source.old) (S.left source.new) (O.written sink.old) (O.written sink.new) }
+    ensures closed { (serving : Serving) → command_of (map string_bytes words.now) ≡ Some (Command.Serve serving)
+        → result.status.0 ≡ 0 → HaveClosed (D.closed doors.new) }
+    ensures served_apart { (serving : Serving) → command_of (map string_bytes words.now) ≡ Some (Command.Serve serving)
+        → (source.new ≡ source.old) × (result.status.0 ≢ 6 → sink.new ≡ sink.old) }
+    ensures doors_apart { ((serving : Serving) → command_of (map string_bytes words.now) ≢ Some (Command.Serve serving)) → doors.new ≡ doors.old }
+    ensures usage { (result.status.0 ≡ 2) ↔ (command_of (map string_bytes words.now) ≡ None) }
+    ensures usage_line { result.status.0 ≡ 2 → Appends (O.written sink.old) (O.written sink.new) USAGE.now
+        ⊎ (AppendsFront (O.written sink.old) (O.written sink.new) USAGE.now × Rose (O.faults sink.old) (O.faults sink.new)) }
+    ensures usage_same { result.status.0 ≡ 2 → source.new ≡ source.old }
+    ensures read_fault { result.status.0 ≡ 3 → Rose (S.faults source.old) (S.faults source.new) }
+    ensures write_fault { result.status.0 ≡ 4 → Rose (O.faults sink.old) (O.faults sink.new) }
+    ensures store_same { (result.status.0 ≡ 5) ⊎ (result.status.0 ≡ 6) → Stays (K.tables (place_of (map string_bytes words.now)) keeper) (tables_left (K.tables (place_of (map string_bytes words.now))) result.keeper) }
+    ensures keeper_fault { result.status.0 ≡ 5 → Rose (K.faults keeper) (faults_left K.faults result.keeper) }
+    ensures refused_store { result.status.0 ≡ 6 → IsRefused (K.tables (place_of (map string_bytes words.now)) keeper) (O.written sink.old) (O.written sink.new) (O.faults sink.old) (O.faults sink.new) }
+    ensures unopenable { result.status.0 ≡ 6 → IsUnopenable (K.tables (place_of (map string_bytes words.now)) keeper) }
+    ensures stores_alone { (result.status.0 ≡ 5) ⊎ (result.status.0 ≡ 6) → IsOverStore (command_of (map string_bytes words.now)) }
+    ensures returned { result.keeper ≡ None → (serving : Serving) × (command_of (map string_bytes words.now) ≡ Some (Command.Serve serving)) × (serving.kept ≡ true) }
+    ensures doors_fault { result.status.0 ≡ 7 → Rose (D.faults doors.old) (D.faults doors.new) }
+    ensures memory { result.status.0 ≡ 9 → command_of (map string_bytes words.now) ≢ Some Command.Mirror
+        → (source.new ≡ source.old) × (sink.new ≡ sink.old) }
+    ensures mirror_memory { result.status.0 ≡ 9 → command_of (map string_bytes words.now) ≡ Some Command.Mirror
+        → MirrorsSome NoMemory (S.left source.old) (S.left source.new) (O.written sink.old) (O.written sink.new) }
+    ensures read_later { S.faults source.old ≤ S.faults source.new }
+    ensures write_later { O.faults sink.old ≤ O.faults sink.new }
+    ensures doors_later { D.faults doors.old ≤ D.faults doors.new }
+    ensures complete { command_of (map string_bytes words.now) ≢ None
+        → (Rose (S.faults source.old) (S.faults source.new) → ⊥) → (Rose (O.faults sink.old) (O.faults sink.new) → ⊥)
+        → (Rose (D.faults doors.old) (D.faults doors.new) → ⊥) → (Rose (K.faults keeper) (faults_left K.faults result.keeper) → ⊥)
+        → (result.status.0 ≡ 0) ⊎ ((result.status.0 ≡ 6) ⊎ ((result.status.0 ≡ 9) ⊎ (result.status.0 ≡ 10))) }
+{
+    match command_of(words) {
+        None => whole(usage(sink), keeper),
+        Some(Command::Session(orphans)) => {
+            whole(run_session(alloc, orphans, source, sink), keeper)
+        }
+        Some(Command::Stored(orphans)) => {
+            given_back(run_stored_by(alloc, words, orphans, source, sink, keeper))
+        }
+        Some(Command::Wire(orphans)) => {
+            whole(run_connection(alloc, orphans, source, sink), keeper)
+        }
+        Some(Command::StoredWire(orphans)) => {
+            given_back(run_stored_connection_by(alloc, words, orphans, source, sink, keeper))
+        }
+        Some(Command::Serve(serving)) => {
+            run_server(rt, alloc, words, serving, sink, clock, doors, keeper)
+        }
+        Some(Command::Mirror) => whole(run_mirror(alloc, source, sink), keeper),
+        Some(Command::Sample(seed, count)) => {
+            whole(tell_sample(alloc, seed, count, sink), keeper)
+        }
+    }
 }
 
 /// Runs the command that the words are. `session` answers the lines of the source over an empty catalogue, one reply a line; `wire`
@@ -199,42 +286,7 @@ pub fn run<
         → (Rose (D.faults doors.old) (D.faults doors.new) → ⊥) → (Rose (K.faults keeper) (faults_left K.faults result.keeper) → ⊥)
         → (result.status.0 ≡ 0) ⊎ ((result.status.0 ≡ 6) ⊎ ((result.status.0 ≡ 9) ⊎ (result.status.0 ≡ 10))) }
 {
-    sessions_stay_sound();
-    deleting_sessions_have_no_orphans();
-    inputs_are_those_of_accepted_commands();
-    settled_sessions_are_at_rest();
+    program_sessions_keep_their_laws();
     kept_sessions_stay_sound();
-    match command_of(words) {
-        None => whole(usage(sink), keeper),
-        Some(Command::Session(orphans)) => {
-            whole(run_session(alloc, orphans, source, sink), keeper)
-        }
-        Some(Command::Stored(orphans)) => match place_of(alloc, words) {
-            Ok(place) => given_back(run_stored(alloc, orphans, place, keeper, source, sink)),
-            Err(_) => whole(Status(9), keeper),
-        },
-        Some(Command::Wire(orphans)) => {
-            whole(run_connection(alloc, orphans, source, sink), keeper)
-        }
-        Some(Command::StoredWire(orphans)) => match place_of(alloc, words) {
-            Ok(place) => given_back(run_stored_connection(
-                alloc, orphans, place, keeper, source, sink,
-            )),
-            Err(_) => whole(Status(9), keeper),
-        },
-        Some(Command::Serve(serving)) => {
-            if serving.kept {
-                run_stored_serve(rt, alloc, words, serving, sink, clock, doors, keeper)
-            } else {
-                whole(
-                    run_serve(rt, alloc, address_of(words), serving, clock, doors),
-                    keeper,
-                )
-            }
-        }
-        Some(Command::Mirror) => whole(run_mirror(alloc, source, sink), keeper),
-        Some(Command::Sample(seed, count)) => {
-            whole(tell_sample(alloc, seed, count, sink), keeper)
-        }
-    }
+    carried_out(rt, alloc, words, source, sink, clock, doors, keeper)
 }

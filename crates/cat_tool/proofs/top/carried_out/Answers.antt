@@ -2,10 +2,10 @@ use Rattle.std.proofs.Common.{◌≡◌, Some, map, string_bytes}
 use Rattle.cat_words.specs.Words.{command_of}
 use Rattle.cat_words.specs.declared.words.Command.TheVariants.{Serve, Sample}
 use Rattle.cat_words.proofs.Bounds.{samples_small, serves_some}
-use Rattle.cat_tool.proofs.top.run.Goals as goal
+use Rattle.cat_tool.proofs.top.carried_out.Goals as goal
 
-pub run_serve-requires-clause-crew : goal.run_serve-requires-clause-crew
-run_serve-requires-clause-crew g c κs within =
+pub run_server-requires-clause-crew : goal.run_server-requires-clause-crew
+run_server-requires-clause-crew g c κs within =
     let is : command_of (map string_bytes c.args.words.now) ≡ Some (Serve c.in-Some-Serve.serving) = cc in
     serves_some (map string_bytes c.args.words.now) c.in-Some-Serve.serving is
 
@@ -13,8 +13,3 @@ pub tell_sample-requires : goal.tell_sample-requires
 tell_sample-requires g c =
     let is : command_of (map string_bytes c.args.words.now) ≡ Some (Sample c.in-Some-Sample.seed c.in-Some-Sample.count) = cc in
     samples_small (map string_bytes c.args.words.now) c.in-Some-Sample.seed c.in-Some-Sample.count is
-
-pub run_stored_serve-requires-clause-crew : goal.run_stored_serve-requires-clause-crew
-run_stored_serve-requires-clause-crew g c κs within =
-    let is : command_of (map string_bytes c.args.words.now) ≡ Some (Serve c.in-Some-Serve.serving) = cc in
-    serves_some (map string_bytes c.args.words.now) c.in-Some-Serve.serving is
