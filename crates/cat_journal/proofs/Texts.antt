@@ -1,5 +1,5 @@
 -- The text of a batch and the tree that is read of it.
-use Rattle.std.proofs.Common.{◌≡◌, ◌≢◌, ℕ, zero, suc, ◌^◌, ◌<◌, ◌≤◌, pos, negsuc, List, [], ◌∷◌, ◌++◌, Bool, true, false, true≢false, ◌⊎◌, inl, inr, Result, Ok, Err, Some, map, length, get_or, refl, sym, ◌∙◌, ap, subst, arith, append_assoc}
+use Rattle.std.proofs.Common.{◌≡◌, ◌≢◌, ℕ, zero, suc, ◌+◌, ◌^◌, ◌<◌, ◌≤◌, pos, negsuc, List, [], ◌∷◌, ◌++◌, Bool, true, false, true≢false, ◌⊎◌, inl, inr, Result, Ok, Err, Some, map, length, get_or, drop, refl, sym, ◌∙◌, ap, subst, arith, append_assoc, add-one, drop-cons}
 use Rattle.std.specs.Prelude.{IsTrue, ◌↔◌, IsUtf8}
 use Rattle.std.proofs.lemmas.Bool.Decides.{nat_tests}
 use Rattle.std.specs.FinMap.Entries.{is_sorted}
@@ -262,6 +262,19 @@ other (x ∷ y ∷ z ∷ w ∷ ts) p q = refl
 pub with_front-push : {A : Type 0} (xs : List A) (x : A) (more : Result (List A) BodyFault) → with_front (xs ++ x ∷ []) more ≡ with_front xs (onto (Ok x) more)
 with_front-push xs x (Ok ys) = ap Ok (append_assoc xs (x ∷ []) ys)
 with_front-push xs x (Err e) = refl
+
+-- what is left at i is the tree there, and what is left after it
+tree_left : (ts : List Tree) (i : ℕ) (t d : Tree) → i < length ts → t ≡ get_or ts i d → changes_of (items_of (map data_of (drop i ts))) ≡ onto (change_in (data_of t)) (changes_of (items_of (map data_of (drop (i + 1) ts))))
+tree_left ts i t d short at =
+    rw (add-one i) (ap (λ us. changes_of (items_of (map data_of us))) (drop-cons ts i d short)
+    ∙ ap (λ u. onto (change_in (data_of u)) (changes_of (items_of (map data_of (drop (suc i) ts))))) (sym at))
+
+-- the changes so far, grown by that of the tree at i
+pub changes_further : (ts : List Tree) (i : ℕ) (t d : Tree) (front grown : Changes) (x : RowKey × Change) → i < length ts → t ≡ get_or ts i d → change_in (data_of t) ≡ Ok x → grown ≡ front ++ x ∷ [] → with_front grown (changes_of (items_of (map data_of (drop (i + 1) ts)))) ≡ with_front front (changes_of (items_of (map data_of (drop i ts))))
+changes_further ts i t d front grown x short at made e =
+    rw e (with_front-push front x (changes_of (items_of (map data_of (drop (i + 1) ts))))
+    ∙ sym (ap (with_front front) (tree_left ts i t d short at
+    ∙ ap (λ r. onto r (changes_of (items_of (map data_of (drop (i + 1) ts))))) made)))
 
 -- what was written is the text of the batch
 pub written_text : (cs : Changes) (d : Data) → d ≡ batch_data cs → IsTrue (is_sorted row_cmp cs) → (IsNarrow d → depth_of d ≤ 127 → ReadsAs (text_of d) d) → IsText cs (batch_text cs)

@@ -19,7 +19,7 @@ use cat_types::reference::text_in;
 use std::alloc::{AllocError, AllocFailed, Global};
 
 /// Why a body gives no batch.
-#[derive(Clone, Copy, Debug, Drop, PartialEq, Eq)]
+#[derive(Clone, Copy, Drop)]
 pub enum BodyFault {
     /// It isn't the text of a batch.
     NoBatch,

@@ -9,7 +9,7 @@ use crate::records::BEGINNING;
 use cat_disk::{Disk, DiskDone};
 
 /// How a record was put.
-#[derive(Clone, Copy, Debug, Drop, PartialEq, Eq)]
+#[derive(Clone, Copy, Drop)]
 pub enum Put {
     /// It is on the disk.
     Kept,

@@ -1,7 +1,8 @@
 //! A keeper over a journal.
-ghost use Rattle.std.specs.Prelude.{◌≡◌, ◌≢◌, ◌≤◌, ◌+◌, true, false, [], IfOk, List};
+ghost use Rattle.std.specs.Prelude.{◌≡◌, ◌≢◌, ◌≤◌, ◌+◌, ◌++◌, true, false, [], IfOk, OnOk, List, codes, decimal};
+ghost use Rattle.std.specs.FinMap.Entries.{put};
 ghost use Rattle.cat_io.specs.Causes.{Rose};
-ghost use Rattle.cat_keeper.specs.Store.{Changes, Rows};
+ghost use Rattle.cat_keeper.specs.Store.{Changes, Rows, row_cmp};
 ghost use Rattle.cat_journal.specs.Scanning.{GivesScan, AreDurable, content_read};
 ghost use Rattle.cat_journal.specs.Stands.{Stands, IsSafeLoaded, IsSafeCommit};
 ghost use Rattle.cat_keeper.specs.Answers.{Loads, Commits};
@@ -45,16 +46,35 @@ impl<D: Disk> Model for JournalKeeper<D> {
     ghost invariant = { λ k. IsKept k.known k.ready (record { moments = D.moments k.disk; content = D.content k.disk }) };
 }
 
+// The key under which damage at a position is handed up.
+fn damage_key(alloc: Global, place: u64) -> Result<Text, AllocError>
+    ensures { IfOk result (λ t. t ≡ codes "journal " ++ decimal place) }
+{
+    Ok(Text::from_string(format!(in alloc; "journal {place}")?))
+}
+
+// A text under a key among the counters.
+fn put_counter(
+    alloc: Global,
+    rows: &mut StoredRows,
+    key: Text,
+    text: &str,
+) -> Result<(), AllocError>
+    ensures { OnOk result (rows.new ≡ put row_cmp (Table.Counters, key) text.now rows.old) }
+{
+    let text = Text::of(alloc, text)?;
+    rows.put(alloc, (Table::Counters, key), text)
+}
+
 // The rows by which damage at a position is handed up.
 fn damage(alloc: Global, place: u64) -> Result<StoredRows, AllocError>
     ensures { IfOk result (λ rows. rows ≡ damage_rows place) }
 {
     let mut rows = Map::new();
-    let arrival = (Table::Counters, Text::of(alloc, "arrival")?);
-    rows.put(alloc, arrival, Text::of(alloc, "1")?)?;
-    let name = format!(in alloc; "journal {place}")?;
-    let journal = (Table::Counters, Text::from_string(name));
-    rows.put(alloc, journal, Text::of(alloc, "")?)?;
+    let key = Text::of(alloc, "arrival")?;
+    put_counter(alloc, &mut rows, key, "1")?;
+    let key = damage_key(alloc, place)?;
+    put_counter(alloc, &mut rows, key, "")?;
     Ok(rows)
 }
 

@@ -13,7 +13,7 @@ use cat_keeper::rows::StoredRows;
 use std::alloc::Global;
 
 /// What is known of the gate byte at which the records end.
-#[derive(Clone, Copy, Debug, Drop, PartialEq, Eq)]
+#[derive(Clone, Copy, Drop)]
 pub enum Known {
     /// No load has found it.
     Nothing,

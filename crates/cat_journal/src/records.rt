@@ -18,7 +18,7 @@ pub const HEADER: [u8; 8] = *b"CATJRNL1";
 pub const BEGINNING: [u8; 9] = *b"CATJRNL1\0";
 
 /// What stands at a gate byte.
-#[derive(Clone, Copy, Debug, Drop, PartialEq, Eq)]
+#[derive(Clone, Copy, Drop)]
 pub enum Gate {
     /// It isn't 1.
     Shut,

@@ -102,7 +102,7 @@ impl FileDisk {
 }
 
 /// Why nothing was read.
-#[derive(Clone, Copy, Debug, Drop, PartialEq, Eq)]
+#[derive(Clone, Copy, Drop)]
 enum ReadFault {
     Failed,
     NoMemory,

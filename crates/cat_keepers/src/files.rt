@@ -17,12 +17,21 @@ use sqlite::{File, FileStore};
 use std::alloc::Global;
 
 /// What keeps the rows of a file. Of what the file holds nothing is told.
-#[derive(Drop)]
 pub enum ToolFile {
     /// A database of SQLite.
     Sql(SqlKeeper<FileStore<File>>),
     /// A journal.
     Journal(JournalKeeper<FileDisk>),
+}
+
+// Written out, and not derived: so a program lets go of a keeper by one call.
+impl Drop for ToolFile {
+    fn drop(self) {
+        match self {
+            ToolFile::Sql(_keeper) => {}
+            ToolFile::Journal(_keeper) => {}
+        }
+    }
 }
 
 impl Keeper for ToolFile {

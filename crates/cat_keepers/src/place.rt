@@ -72,11 +72,21 @@ enum Store<K> {
 /// and after a load of a file that gave no rows each commit fails.
 ///
 /// Each call that is answered `Failed` counts as a fault, and no other. For nowhere none comes.
-#[derive(Drop)]
 pub struct PlaceKeeper<O: Opener> {
     opener: O,
     store: Store<O::Opened>,
     faults: u64,
+}
+
+// Written out, and not derived: so a program lets go of a keeper by one call.
+impl<O: Opener + Drop> Drop for PlaceKeeper<O> {
+    fn drop(self) {
+        let PlaceKeeper {
+            opener: _,
+            store: _,
+            faults: _,
+        } = self;
+    }
 }
 
 impl<O: Opener> Model for PlaceKeeper<O> {
