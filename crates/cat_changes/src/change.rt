@@ -18,11 +18,11 @@ ghost use Rattle.cat_events.specs.Planned.{planned};
 ghost use Rattle.cat_events.specs.Shelf.{DifferAt, readers_of, reads_other, with_shelf};
 ghost use Rattle.cat_events.specs.Stepped.{come_to, is_known};
 
+use cat_claims::replaced::Nothing;
 use cat_events::claims::claimed_by_entity;
 use cat_events::plan::{Inputs, OwnChange, Plan, planned};
 use cat_events::refusal::{input_fault, unless, unless_spent};
 use cat_events::stepped::{Step, take_in};
-use cat_claims::replaced::Nothing;
 use cat_hold::build::{Passes, filtered};
 use cat_hold::change::Own;
 use cat_hold::hold::row_of;

@@ -15,12 +15,12 @@ ghost use Rattle.cat_events.specs.Planned.{planned};
 ghost use Rattle.cat_events.specs.OwnChanges.{IsMutating, given_or_removed};
 ghost use Rattle.cat_events.specs.Stepped.{come_to};
 
-use cat_events::claims::{claimed, touched};
 use crate::items::next_items;
+use cat_claims::types::Claimed;
+use cat_events::claims::{claimed, touched};
 use cat_events::plan::{Inputs, OwnChange, Plan, planned};
 use cat_events::refusal::{input_fault, unless};
 use cat_events::stepped::{Step, take_in};
-use cat_claims::types::Claimed;
 use cat_hold::layers::Layers;
 use cat_hold::parts::append;
 use cat_links::links::Links;

@@ -21,6 +21,8 @@ ghost use Rattle.cat_renewed.specs.declared.reached.Reached.{Reached};
 ghost use Rattle.cat_tables.specs.Stored.{stored, texts_of};
 
 use crate::reaching::reached;
+use cat_changes::given::serial_of;
+use cat_changes::mutation::last_serial;
 use cat_core::catalogue::{Catalogue, Done, Saved, Stitched};
 use cat_core::fault::{CoreFault, Cut};
 use cat_desk::asks::{prepare, write_ask};
@@ -30,8 +32,6 @@ use cat_desk::fed::tell;
 use cat_desk::feed_desk::{FeedAnswer, FeedDesk};
 use cat_desk::spare::{bring_up, brought_up, taken};
 use cat_desk::timed::{act, settle_reaching};
-use cat_changes::given::serial_of;
-use cat_changes::mutation::last_serial;
 use cat_feed::change::Since;
 use cat_feed::feed::Feed;
 use cat_hold::layers::Layers;
