@@ -2,10 +2,16 @@
 use cat_tree::read::{TreeFault, read};
 use cat_tree::tree::Tree;
 use std::alloc::{AllocError, Global};
-use std::collections::BTreeMap;
 
-/// The texts that names stand for.
-pub type Names = BTreeMap<String, Vec<u8>>;
+/// A name, and the text that it stands for.
+#[derive(Drop)]
+pub struct Named {
+    pub name: String,
+    pub text: Vec<u8>,
+}
+
+/// The texts that names stand for; the last one counts that a name is given to.
+pub type Names = Vec<Named>;
 
 /// The fields of a line.
 #[derive(Drop)]
@@ -34,48 +40,94 @@ fn repeat(alloc: Global, out: &mut Vec<u8>, from: usize, count: u32) -> Result<(
     Ok(())
 }
 
-// Puts the text of a name behind what stands so far.
-fn push_named(out: &mut Vec<u8>, names: &Names, name: &str) -> Result<(), AllocError> {
-    match names.get(name) {
-        Some(text) => out.extend_from_slice(text.as_slice()),
-        None => Ok(()),
-    }
+// Where the piece begins that is repeated, and how often it stands.
+#[derive(Drop)]
+struct Repeated {
+    from: usize,
+    count: u32,
 }
 
-// Puts the byte of two hexadecimal digits behind what stands so far, and gives what follows them.
-fn push_byte<'a>(out: &mut Vec<u8>, text: &'a str) -> Result<&'a str, AllocError> {
-    let (digits, rest) = text.split_at_checked(2).unwrap_or(("", text));
+// The text of a name, which is empty where none has it.
+fn text_of<'a>(names: &'a [Named], name: &str) -> &'a [u8] {
+    let mut text: &[u8] = &[];
+    for named in names {
+        if named.name.as_str() == name {
+            text = named.text.as_slice();
+        }
+    }
+    text
+}
+
+// Puts the text of a name, which `]` ends, and what follows it behind what stands so far.
+fn push_named(out: &mut Vec<u8>, names: &Names, piece: &str) -> Result<(), AllocError> {
+    let (name, rest) = piece.split_once(']').unwrap_or((piece, ""));
+    out.extend_from_slice(text_of(names.as_slice(), name))?;
+    out.extend_from_slice(rest.as_bytes())
+}
+
+// Puts the byte of two hexadecimal digits, and what follows them, behind what stands so far.
+fn push_byte(out: &mut Vec<u8>, piece: &str) -> Result<(), AllocError> {
+    let (digits, rest) = piece.split_at_checked(2).unwrap_or(("", piece));
     if let Ok(byte) = u8::from_str_radix(digits, 16) {
         out.push(byte)?;
     }
-    Ok(rest)
+    out.extend_from_slice(rest.as_bytes())
 }
 
-// The bytes that a field stands for.
-fn meant(alloc: Global, names: &Names, field: &str) -> Result<Vec<u8>, AllocError> {
-    let mut pieces = field.split('^');
-    let mut out = pieces.next().unwrap_or("").as_bytes().to_vec(alloc)?;
-    let mut from = 0;
-    let mut count = 1;
-    for piece in pieces {
-        let rest = if let Some(piece) = piece.strip_prefix('[') {
-            let (name, rest) = piece.split_once(']').unwrap_or((piece, ""));
-            push_named(&mut out, names, name)?;
-            rest
-        } else if let Some(piece) = piece.strip_prefix('(') {
-            let (times, rest) = piece.split_once(' ').unwrap_or((piece, ""));
-            from = out.len();
-            count = times.parse::<u32>().unwrap_or(1);
-            rest
-        } else if let Some(rest) = piece.strip_prefix(')') {
-            repeat(alloc, &mut out, from, count)?;
-            rest
-        } else {
-            push_byte(&mut out, piece)?
-        };
-        out.extend_from_slice(rest.as_bytes())?;
+// Begins a piece that is repeated as often as the number before the space says.
+fn begin(out: &mut Vec<u8>, repeated: &mut Repeated, piece: &str) -> Result<(), AllocError> {
+    let (times, rest) = piece.split_once(' ').unwrap_or((piece, ""));
+    repeated.from = out.len();
+    repeated.count = times.parse::<u32>().unwrap_or(1);
+    out.extend_from_slice(rest.as_bytes())
+}
+
+// Puts what stands behind a `^` behind what stands so far.
+fn push_piece(
+    alloc: Global,
+    out: &mut Vec<u8>,
+    repeated: &mut Repeated,
+    names: &Names,
+    piece: &str,
+) -> Result<(), AllocError> {
+    match piece.split_at_checked(1) {
+        Some(("[", piece)) => push_named(out, names, piece),
+        Some(("(", piece)) => begin(out, repeated, piece),
+        Some((")", rest)) => {
+            repeat(alloc, out, repeated.from, repeated.count)?;
+            out.extend_from_slice(rest.as_bytes())
+        }
+        _ => push_byte(out, piece),
     }
-    Ok(out)
+}
+
+// Puts what a field stands for behind what stands so far.
+fn push_meant(
+    alloc: Global,
+    out: &mut Vec<u8>,
+    names: &Names,
+    field: &str,
+) -> Result<(), AllocError> {
+    let (first, rest) = field.split_once('^').unwrap_or((field, ""));
+    out.extend_from_slice(first.as_bytes())?;
+    let mut repeated = Repeated { from: 0, count: 1 };
+    for piece in rest.split('^') {
+        push_piece(alloc, out, &mut repeated, names, piece)?;
+    }
+    Ok(())
+}
+
+// Puts the bytes that a field stands for behind the fields so far.
+fn push_field(
+    alloc: Global,
+    fields: &mut Vec<Vec<u8>>,
+    names: &Names,
+    field: &str,
+) -> Result<(), AllocError> {
+    let mut out = Vec::new(alloc);
+    push_meant(alloc, &mut out, names, field)?;
+    fields.push(out)?;
+    Ok(())
 }
 
 impl Case {
@@ -83,7 +135,7 @@ impl Case {
     pub fn read(alloc: Global, names: &Names, line: &str) -> Result<Case, AllocError> {
         let mut fields = Vec::new(alloc);
         for field in line.split('\t') {
-            fields.push(meant(alloc, names, field)?)?;
+            push_field(alloc, &mut fields, names, field)?;
         }
         Ok(Case { fields })
     }

@@ -33,11 +33,10 @@ mod targets;
 mod trees;
 mod yaml;
 
-use crate::case::{Case, Names};
+use crate::case::{Case, Named, Names};
 use crate::fault::Fault;
 use crate::shown::push_line;
 use std::alloc::{AllocError, Global};
-use std::collections::BTreeMap;
 use std::io::{self, Read, Write};
 
 // Puts what comes of a case behind what stands so far.
@@ -94,7 +93,8 @@ fn name(
 ) -> Result<(), AllocError> {
     push_line(out, case.text(1))?;
     let name = String::from_str(alloc, case.text(1))?;
-    names.insert(name, case.bytes(2).to_vec(alloc)?)?;
+    let text = case.bytes(2).to_vec(alloc)?;
+    names.push(Named { name, text })?;
     Ok(())
 }
 
@@ -148,7 +148,7 @@ fn push_answers(
 
 // The lines for the lines of a text.
 fn answers(alloc: Global, text: &str) -> Result<Vec<u8>, AllocError> {
-    let mut names: Names = BTreeMap::new(alloc);
+    let mut names: Names = Vec::new(alloc);
     let mut out = Vec::new(alloc);
     push_answers(alloc, text, &mut names, &mut out)?;
     Ok(out)
