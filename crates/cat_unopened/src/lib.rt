@@ -8,6 +8,6 @@
 //! names is the first at fault, and that a store is refused only where its rows are those of no state that opens.
 #![tactic(auto)]
 
-mod unopened;
+mod refusal;
 
-pub use unopened::unopened;
+pub use refusal::unopened;

@@ -4,7 +4,7 @@ use Rattle.cat_model.specs.declared.types.OrphanRule.TheVariants.{Keep}
 use Rattle.cat_store.specs.Refused.{IsNamed}
 use Rattle.cat_transcript.specs.Program.{program_settings}
 use Rattle.cat_unopened.specs.Unopened.{IsLineOf}
-use Rattle.cat_unopened.proofs.unopened.unopened.Goals as goal
+use Rattle.cat_unopened.proofs.refusal.unopened.Goals as goal
 
 pub returns-in-Row-clause-refused : goal.returns-in-Row-clause-refused
 returns-in-Row-clause-refused g c = λ is told named.

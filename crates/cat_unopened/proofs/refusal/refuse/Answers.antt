@@ -3,7 +3,7 @@ use Rattle.std.specs.Io.KnownBytes.{Appends}
 use Rattle.cat_io.specs.Causes.{Rose}
 use Rattle.cat_io.specs.Sink.{AppendsFront}
 use Rattle.cat_unopened.proofs.Writing.{told}
-use Rattle.cat_unopened.proofs.unopened.refuse.Goals as goal
+use Rattle.cat_unopened.proofs.refusal.refuse.Goals as goal
 
 pub returns-in-Ok-clause-refused : goal.returns-in-Ok-clause-refused
 returns-in-Ok-clause-refused g c = λ is.
