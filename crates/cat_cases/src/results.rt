@@ -9,7 +9,7 @@ use cat_table::map::Map;
 use cat_tree::text::Text;
 use cat_tree::tree::Tree;
 use cat_types::input::Offered;
-use cat_types::issue::Issue;
+use cat_types::issue::{Issue, IssueName, Level};
 use cat_types::node::Node;
 use cat_types::reference::Ref;
 use cat_types::work::{Content, Outcome, Output, Work};
@@ -71,12 +71,30 @@ fn push_offers(out: &mut String, alloc: Global, output: &Output) -> Result<(), F
     Ok(())
 }
 
+fn level_word(level: Level) -> &'static str {
+    match level {
+        Level::Error => "Error",
+        Level::Warning => "Warning",
+    }
+}
+
+fn name_word(name: IssueName) -> &'static str {
+    match name {
+        IssueName::SchemaFault => "SchemaFault",
+        IssueName::ReferenceFault => "ReferenceFault",
+        IssueName::TargetFault => "TargetFault",
+        IssueName::MissingTarget => "MissingTarget",
+        IssueName::ShelfFault => "ShelfFault",
+        IssueName::DuplicateOffer => "DuplicateOffer",
+    }
+}
+
 // Puts a line for an issue behind what stands so far.
 fn push_issue(out: &mut String, issue: &Issue) -> Result<(), AllocError> {
-    let level = issue.level;
-    let name = issue.name;
-    write!(out, "{level:?} ")?;
-    write!(out, "{name:?} ")?;
+    push_texts(
+        out,
+        &[level_word(issue.level), " ", name_word(issue.name), " "],
+    )?;
     push_texts(out, &[issue.message.as_str(), "\n"])
 }
 
