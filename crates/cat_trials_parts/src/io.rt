@@ -1,25 +1,44 @@
 //! Ends over readers and writers.
 use cat_io::{ReadAnswer, Sink, Source, StdSink, StdSource, WriteAnswer};
 use std::io::Cursor;
-use std::test::Fail;
+
+// What a read answers, and what is in the room for it then.
+fn read_into<S: Source>(source: &mut S) -> (ReadAnswer, [u8; 4]) {
+    let mut room = [0; 4];
+    let answer = source.read(&mut room);
+    (answer, room)
+}
 
 #[test]
 fn a_reader_is_a_source(rt: HostRuntime) {
     let mut source = StdSource::new(Cursor::new(b"abcde".as_slice()));
-    let mut buffer = [0; 4];
-    assert_eq!(rt; source.read(&mut buffer), ReadAnswer::Read(4));
-    assert_eq!(rt; buffer, *b"abcd");
-    assert_eq!(rt; source.read(&mut buffer), ReadAnswer::Read(1));
-    assert_eq!(rt; buffer[0], b'e');
-    assert_eq!(rt; source.read(&mut buffer), ReadAnswer::Read(0));
+    let wanted = [
+        (ReadAnswer::Read(4), *b"abcd"),
+        (ReadAnswer::Read(1), *b"e\0\0\0"),
+        (ReadAnswer::Read(0), [0; 4]),
+    ];
+    for wanted in wanted.iter() {
+        assert_eq!(rt; read_into(&mut source), *wanted);
+    }
+}
+
+// What three writes answer over a room of five bytes.
+fn wrote(room: &mut [u8]) -> [WriteAnswer; 3] {
+    let mut sink = StdSink::new(Cursor::new(room));
+    let first = sink.write(b"abc");
+    let second = sink.write(b"def");
+    [first, second, sink.write(b"f")]
 }
 
 #[test]
-fn a_writer_is_a_sink(rt: HostRuntime) -> Result<(), Fail> {
+fn a_writer_is_a_sink(rt: HostRuntime) {
     let mut room = [0; 5];
-    let mut sink = StdSink::new(Cursor::new(room.as_mut_slice()));
-    assert_eq!(rt; sink.write(b"abc"), WriteAnswer::Wrote(3));
-    assert_eq!(rt; sink.write(b"def"), WriteAnswer::Wrote(2));
-    assert_eq!(rt; sink.write(b"f"), WriteAnswer::Failed);
-    Ok(())
+    assert_eq!(rt;
+        wrote(room.as_mut_slice()),
+        [
+            WriteAnswer::Wrote(3),
+            WriteAnswer::Wrote(2),
+            WriteAnswer::Failed
+        ]
+    );
 }

@@ -7,7 +7,6 @@ use cat_keeper::table::Table;
 use cat_table::map::Map;
 use cat_tree::text::Text;
 use std::alloc::{AllocError, Global};
-use std::test::Fail;
 
 // Puts a row behind those so far, as `shelf file:/a="{}";`.
 fn push_row(text: &mut String, table: Table, key: &str, value: &str) -> Result<(), AllocError> {
@@ -54,37 +53,34 @@ fn batch(alloc: Global) -> Result<Batch, AllocError> {
 }
 
 // A journal of that batch: its first bytes, the gate byte, the length, the record, and the gate byte behind it.
-fn journal_bytes(alloc: Global) -> Result<Vec<u8>, AllocError> {
-    let length = 24u64.to_be_bytes();
-    [
-        b"CATJRNL1\x01".as_slice(),
-        length.as_slice(),
-        br#"[[4,"file:/a","\"{}\""]]"#.as_slice(),
-        b"\0".as_slice(),
-    ]
-    .concat(alloc)
+const JOURNAL: &[u8] = b"CATJRNL1\x01\0\0\0\0\0\0\0\x18[[4,\"file:/a\",\"\\\"{}\\\"\"]]\0";
+
+// What a commit of that batch comes to before a load, and after it.
+fn committed(
+    alloc: Global,
+    keeper: &mut JournalKeeper<MemoryDisk>,
+) -> Result<[Committed; 2], AllocError> {
+    let batch = batch(alloc)?;
+    let early = keeper.commit(alloc, &batch);
+    let _rows = keeper.load(alloc, &Place::Nowhere);
+    Ok([early, keeper.commit(alloc, &batch)])
 }
 
-// What a commit comes to before a load over an empty disk and after it, and what a crash leaves then.
-fn committed(alloc: Global, batch: &Batch) -> Result<([Committed; 2], Vec<u8>), AllocError> {
+// The same over an empty disk, and whether a crash leaves that journal then.
+fn kept(alloc: Global) -> Result<([Committed; 2], bool), AllocError> {
     let disk = MemoryDisk::new(Vec::new(alloc), Vec::new(alloc));
     let mut keeper = JournalKeeper::over(disk);
-    let early = keeper.commit(alloc, batch);
-    let _rows = keeper.load(alloc, &Place::Nowhere);
-    let late = keeper.commit(alloc, batch);
-    let left = keeper.disk().crash(7, true);
-    drop(keeper);
-    Ok(([early, late], left?))
+    let answers = committed(alloc, &mut keeper)?;
+    let left = keeper.disk().crash(7, true)?;
+    Ok((answers, left.as_slice() == JOURNAL))
 }
 
 #[test]
-fn a_batch_is_kept_in_a_journal(rt: HostRuntime) -> Result<(), Fail> {
-    let alloc = rt.alloc();
-    let batch = batch(alloc)?;
-    let wanted = journal_bytes(alloc)?;
-    let (answers, left) = committed(alloc, &batch)?;
-    assert_eq!(rt; answers, [Committed::Failed, Committed::Kept]);
-    assert_eq!(rt; left.as_slice(), wanted.as_slice());
+fn a_batch_is_kept_in_a_journal(rt: HostRuntime) -> Result<(), AllocError> {
+    assert_eq!(rt;
+        kept(rt.alloc())?,
+        ([Committed::Failed, Committed::Kept], true)
+    );
     Ok(())
 }
 
@@ -96,12 +92,10 @@ const FRONTS: [(usize, &str); 3] = [
 ];
 
 #[test]
-fn fronts_of_a_journal_are_loaded(rt: HostRuntime) -> Result<(), Fail> {
-    let alloc = rt.alloc();
-    let bytes = journal_bytes(alloc)?;
+fn fronts_of_a_journal_are_loaded(rt: HostRuntime) -> Result<(), AllocError> {
     for (length, rows) in FRONTS.iter() {
-        let front = bytes.as_slice().get(..*length).unwrap_or(&[]);
-        assert_eq!(rt; loaded(alloc, front)?.as_str(), *rows);
+        let front = JOURNAL.get(..*length).unwrap_or(&[]);
+        assert_eq!(rt; loaded(rt.alloc(), front)?.as_str(), *rows);
     }
     Ok(())
 }

@@ -1,12 +1,12 @@
 //! Servers beside each other, and a worker beside them.
 ghost use Rattle.std.specs.Prelude.{⊤};
 
-use cat_doors::{Ended, Helper, MemoryConn, MemoryDoors, Running, Server, Worker, serve};
-use cat_io::{MemorySink, MemorySource, ReadAnswer, Sink, Source, WriteAnswer};
+use crate::doors::in_memory;
+use cat_doors::{Ended, Helper, MemoryDoors, Running, Server, Worker, serve};
+use cat_io::{ReadAnswer, Sink, Source, WriteAnswer};
 use std::alloc::{AllocError, Global};
 use std::sync::Wait;
 use std::sync::atomic::{AtomicU64, Ordering};
-use std::test::Fail;
 use std::thread::{Threads, yield_now};
 
 /// How often a server looks for another one before it gives up.
@@ -74,24 +74,6 @@ impl Worker for Idler {
     }
 }
 
-/// A connection that reads one byte.
-fn conn(alloc: Global, byte: u8) -> Result<MemoryConn, AllocError> {
-    let bytes = vec![in alloc; byte]?;
-    Ok(MemoryConn {
-        source: MemorySource::new(bytes, 9, Vec::new(alloc)),
-        sink: MemorySink::new(9, Vec::new(alloc)),
-    })
-}
-
-/// Doors with a connection for each of these bytes, that fail one call.
-fn doors(alloc: Global, bytes: &[u8], failing: u64) -> Result<MemoryDoors, AllocError> {
-    let mut conns = Vec::new(alloc);
-    for byte in bytes {
-        conns.push(conn(alloc, *byte)?)?;
-    }
-    Ok(MemoryDoors::new(conns, vec![in alloc; failing]?))
-}
-
 type Helpers<'a> = Vec<Helper<Greeter<'a>, Idler>>;
 
 /// Puts so many servers behind the helpers so far, each of which waits until so many connections have come.
@@ -143,35 +125,37 @@ fn served<R: Threads + Wait + Sync>(
     Ok((ended, greeted(helpers.as_slice())))
 }
 
-/// The connections, the accept that fails, how many servers there are, why no more came in, and how many were greeted.
-const CASES: [(&[u8], u64, u64, Ended, u64); 5] = [
-    (b"", 0, 1, Ended::Closed, 0),
-    (b"abc", 0, 1, Ended::Closed, 3),
-    (b"abcde", 0, 3, Ended::Closed, 5),
-    (b"abc", 3, 2, Ended::Failed, 2),
-    (b"abc", 0, 0, Ended::Closed, 0),
+/// The same over doors in memory with a connection for each of these bytes, of which one accept fails.
+fn served_in_memory<R: Threads + Wait + Sync>(
+    rt: &R,
+    alloc: Global,
+    bytes: &[u8],
+    failing: u64,
+    servers: u64,
+    awaited: u64,
+) -> Result<(Ended, Option<u64>), AllocError> {
+    let mut doors = in_memory(alloc, bytes, failing)?;
+    served(rt, alloc, &mut doors, servers, awaited)
+}
+
+/// The connections, the accept that fails, how many servers there are, for how many connections each waits, why no more came in, and how many were
+/// greeted. In the last row servers run beside each other: each waits for the other's connection.
+const CASES: [(&[u8], u64, u64, u64, Ended, u64); 6] = [
+    (b"", 0, 1, 0, Ended::Closed, 0),
+    (b"abc", 0, 1, 0, Ended::Closed, 3),
+    (b"abcde", 0, 3, 0, Ended::Closed, 5),
+    (b"abc", 3, 2, 0, Ended::Failed, 2),
+    (b"abc", 0, 0, 0, Ended::Closed, 0),
+    (b"ab", 0, 2, 2, Ended::Closed, 2),
 ];
 
 #[test]
-fn each_connection_is_served_once(rt: HostRuntime) -> Result<(), Fail> {
-    let alloc = rt.alloc();
-    for (bytes, failing, servers, ended, count) in CASES.iter() {
-        let mut doors = doors(alloc, bytes, *failing)?;
+fn each_connection_is_served_once(rt: HostRuntime) -> Result<(), AllocError> {
+    for (bytes, failing, servers, awaited, ended, count) in CASES.iter() {
         assert_eq!(rt;
-            served(&rt, alloc, &mut doors, *servers, 0)?,
+            served_in_memory(&rt, rt.alloc(), bytes, *failing, *servers, *awaited)?,
             (*ended, Some(*count))
         );
     }
-    Ok(())
-}
-
-#[test]
-fn servers_run_beside_each_other(rt: HostRuntime) -> Result<(), Fail> {
-    let alloc = rt.alloc();
-    let mut doors = doors(alloc, b"ab", 0)?;
-    assert_eq!(rt;
-        served(&rt, alloc, &mut doors, 2, 2)?,
-        (Ended::Closed, Some(2))
-    );
     Ok(())
 }
