@@ -1,8 +1,10 @@
-//! The rows of one store, in both versions.
+//! The rows of one store, in both versions, and sessions over keepers.
+use cat_io::{MemorySink, MemorySource};
 use cat_keeper::keeper::{Keeper, Loaded, Place};
-use cat_keeper::rows::{Batch, Change, StoredRows};
+use cat_keeper::memory::MemoryKeeper;
+use cat_keeper::rows::{Batch, Change, StoredRows, apply};
 use cat_keeper::table::Table;
-use cat_store::open::Opened;
+use cat_kept::{Ran, run_stored};
 use cat_table::map::Map;
 use cat_tree::text::Text;
 use std::alloc::{AllocError, Global};
@@ -90,8 +92,41 @@ pub fn gives<K: Keeper>(alloc: Global, keeper: &mut K, wanted: &[Row]) -> bool {
     }
 }
 
-/// The keeper of a store that was opened.
-pub fn keeper_of<K: Keeper>(opened: Opened<K>) -> K {
-    let store = opened.store;
-    store.keeper
+/// A keeper in memory of these rows, of which one call fails.
+pub fn memory_keeper(
+    alloc: Global,
+    rows: &[Row],
+    failing: u64,
+) -> Result<MemoryKeeper, AllocError> {
+    let batch = batch_of(alloc, rows)?;
+    let failing = vec![in alloc; failing]?;
+    Ok(MemoryKeeper::new(apply(alloc, &Map::new(), &batch)?, failing))
+}
+
+/// A sink in memory that takes 1,000 bytes at once.
+pub fn sink(alloc: Global) -> MemorySink {
+    MemorySink::new(1_000, Vec::new(alloc))
+}
+
+/// How a session of these lines ends over a keeper, and the keeper.
+pub fn session_over<K: Keeper>(
+    alloc: Global,
+    keeper: K,
+    lines: Vec<u8>,
+    sink: &mut MemorySink,
+) -> Ran<K> {
+    let mut source = MemorySource::new(lines, 1_000, Vec::new(alloc));
+    run_stored(alloc, None, Place::Nowhere, keeper, &mut source, sink)
+}
+
+/// The same, and whether the session writes just this.
+pub fn session_writes<K: Keeper>(
+    alloc: Global,
+    keeper: K,
+    lines: Vec<u8>,
+    wanted: &[u8],
+) -> (Ran<K>, bool) {
+    let mut sink = sink(alloc);
+    let ran = session_over(alloc, keeper, lines, &mut sink);
+    (ran, sink.written() == wanted)
 }

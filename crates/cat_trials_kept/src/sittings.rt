@@ -1,12 +1,10 @@
 //! Sessions over one store, one after the other.
+use crate::kept_rows::{memory_keeper, sink};
 use cat_io::MemorySink;
 use cat_keeper::keeper::Place;
-use cat_keeper::memory::MemoryKeeper;
 use cat_kept::sittings;
-use cat_table::map::Map;
 use cat_wire::Status;
 use std::alloc::{AllocError, Global};
-use std::test::Fail;
 
 const LINES: [&[u8]; 4] = [
     b"full git {\"serial\":1,\"entities\":[{\"entity\":{\"apiVersion\":\"backstage.io/v1alpha1\",\"kind\":\"Component\",\"metadata\":{\"name\":\"web\"},\"spec\":{\"type\":\"service\",\"lifecycle\":\"production\",\"owner\":\"a\"}}}]}\n",
@@ -17,25 +15,27 @@ const LINES: [&[u8]; 4] = [
 
 const LAST: &[u8] = b"settle\nstate\nquiet\n";
 
-// The lines up to a place, and those from it on.
-fn halves(alloc: Global, cut: usize) -> Result<(Vec<u8>, Vec<u8>), AllocError> {
-    let mut first = Vec::new(alloc);
-    let mut second = Vec::new(alloc);
+// The lines from this place on, up to that one.
+fn lines_between(alloc: Global, first: usize, end: usize) -> Result<Vec<u8>, AllocError> {
+    let mut text = Vec::new(alloc);
     for (place, line) in LINES.iter().enumerate() {
-        if place < cut {
-            first.extend_from_slice(line)?;
-        } else {
-            second.extend_from_slice(line)?;
+        if first <= place && place < end {
+            text.extend_from_slice(line)?;
         }
     }
-    Ok((first, second))
+    Ok(text)
 }
 
-// How three sessions over one store end, and what they write, where these calls of the keeper fail.
-fn sat(alloc: Global, cut: usize, failing: Vec<u64>) -> Result<(Status, MemorySink), AllocError> {
-    let (first, second) = halves(alloc, cut)?;
-    let keeper = MemoryKeeper::new(Map::new(), failing);
-    let mut sink = MemorySink::new(1_000, Vec::new(alloc));
+// How three sessions over one store end, of the lines up to a place, of those from it on, and of the last ones, where one call of the keeper fails.
+fn sat(
+    alloc: Global,
+    cut: usize,
+    failing: u64,
+    sink: &mut MemorySink,
+) -> Result<Status, AllocError> {
+    let first = lines_between(alloc, 0, cut)?;
+    let second = lines_between(alloc, cut, LINES.len())?;
+    let keeper = memory_keeper(alloc, &[], failing)?;
     let inputs = [first.as_slice(), second.as_slice(), LAST];
     let ran = sittings(
         alloc,
@@ -43,28 +43,38 @@ fn sat(alloc: Global, cut: usize, failing: Vec<u64>) -> Result<(Status, MemorySi
         &Place::Nowhere,
         keeper,
         inputs.as_slice(),
-        &mut sink,
+        sink,
     );
-    Ok((ran.status, sink))
+    Ok(ran.status)
+}
+
+// What the last lines are answered.
+const ANSWERS: &[u8] = b"settled 1 1 1\nstate records 1 orphans 0 due 0 leased 0 marked 0\nyes\n";
+
+// How sessions end where no call fails, and whether their last lines are answered so.
+fn cut(alloc: Global, cut: usize) -> Result<(Status, bool), AllocError> {
+    let mut sink = sink(alloc);
+    let status = sat(alloc, cut, 0, &mut sink)?;
+    Ok((status, sink.written().ends_with(ANSWERS)))
+}
+
+// How sessions end where the first call fails, and whether nothing is written.
+fn broken_off(alloc: Global) -> Result<(Status, bool), AllocError> {
+    let mut sink = sink(alloc);
+    let status = sat(alloc, 0, 1, &mut sink)?;
+    Ok((status, sink.written().is_empty()))
 }
 
 #[test]
-fn lines_come_to_the_same_wherever_they_are_cut(rt: HostRuntime) -> Result<(), Fail> {
-    let alloc = rt.alloc();
-    let wanted = b"settled 1 1 1\nstate records 1 orphans 0 due 0 leased 0 marked 0\nyes\n";
-    for cut in 0..5usize {
-        let (status, sink) = sat(alloc, cut, Vec::new(alloc))?;
-        assert_eq!(rt; status, Status(0));
-        assert!(rt; sink.written().ends_with(wanted.as_slice()));
+fn lines_come_to_the_same_wherever_they_are_cut(rt: HostRuntime) -> Result<(), AllocError> {
+    for place in 0..5usize {
+        assert_eq!(rt; cut(rt.alloc(), place)?, (Status(0), true));
     }
     Ok(())
 }
 
 #[test]
-fn the_first_session_that_breaks_off_is_the_last(rt: HostRuntime) -> Result<(), Fail> {
-    let alloc = rt.alloc();
-    let (status, sink) = sat(alloc, 0, vec![in alloc; 1]?)?;
-    assert_eq!(rt; status, Status(5));
-    assert!(rt; sink.written().is_empty());
+fn the_first_session_that_breaks_off_is_the_last(rt: HostRuntime) -> Result<(), AllocError> {
+    assert_eq!(rt; broken_off(rt.alloc())?, (Status(5), true));
     Ok(())
 }

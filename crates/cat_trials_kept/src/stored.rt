@@ -1,51 +1,12 @@
 //! Sessions over a store, and what is there again.
-use cat_io::{MemorySink, MemorySource};
+use crate::kept_rows::{Row, memory_keeper, session_over, session_writes, sink};
+use cat_io::MemorySource;
 use cat_keeper::keeper::Place;
-use cat_keeper::memory::MemoryKeeper;
-use cat_keeper::rows::StoredRows;
 use cat_keeper::table::Table;
-use cat_kept::{Ran, run_stored, run_stored_connection};
-use cat_table::map::Map;
-use cat_tree::text::Text;
+use cat_kept::run_stored_connection;
 use cat_wire::Status;
 use itoa::Buffer;
 use std::alloc::{AllocError, Global};
-use std::test::Fail;
-
-// Puts a row, which is a table, a key and a value.
-fn put_row(
-    alloc: Global,
-    kept: &mut StoredRows,
-    row: &(Table, &str, &str),
-) -> Result<(), AllocError> {
-    let key = (row.0, Text::of(alloc, row.1)?);
-    kept.put(alloc, key, Text::of(alloc, row.2)?)
-}
-
-// A keeper of these rows, of which one call fails.
-fn keeper_of(
-    alloc: Global,
-    rows: &[(Table, &str, &str)],
-    failing: u64,
-) -> Result<MemoryKeeper, AllocError> {
-    let mut kept = Map::new();
-    for row in rows {
-        put_row(alloc, &mut kept, row)?;
-    }
-    Ok(MemoryKeeper::new(kept, vec![in alloc; failing]?))
-}
-
-// What a session over a store writes to these lines, and its status with the keeper.
-fn session_over(
-    alloc: Global,
-    keeper: MemoryKeeper,
-    lines: &[u8],
-) -> Result<(Ran<MemoryKeeper>, MemorySink), AllocError> {
-    let mut source = MemorySource::new(lines.to_vec(alloc)?, 1_000, Vec::new(alloc));
-    let mut sink = MemorySink::new(1_000, Vec::new(alloc));
-    let ran = run_stored(alloc, None, Place::Nowhere, keeper, &mut source, &mut sink);
-    Ok((ran, sink))
-}
 
 const OWNER: &[u8] =
     b"full git {\"serial\":1,\"entities\":[{\"entity\":{\"apiVersion\":\"backstage.io/v1alpha1\",\"kind\":\"Component\",\"metadata\":{\"name\":\"web\"},\"spec\":{\"type\":\"service\",\"lifecycle\":\"production\",\"owner\":\"a\"}}}]}\n";
@@ -74,16 +35,19 @@ const CASES: [(u64, u8, &[u8], &[u8]); 4] = [
     ),
 ];
 
-// How a session ends over a keeper of which one call fails, what it writes, and what a second session over the same keeper writes.
+// How a session ends over a keeper of which one call fails, whether it writes this, and whether a second session over the same keeper writes that.
 fn two_sessions(
     alloc: Global,
     failing: u64,
-) -> Result<(Status, MemorySink, MemorySink), AllocError> {
-    let keeper = keeper_of(alloc, &[], failing)?;
+    written: &[u8],
+    again: &[u8],
+) -> Result<(Status, bool, bool), AllocError> {
     let lines = [OWNER, OWNER, b"settle\nstate\nsettle\n"].concat(alloc)?;
-    let (ran, first) = session_over(alloc, keeper, lines.as_slice())?;
-    let (_, second) = session_over(alloc, ran.keeper, b"state\nquiet\n")?;
-    Ok((ran.status, first, second))
+    let questions = b"state\nquiet\n".to_vec(alloc)?;
+    let keeper = memory_keeper(alloc, &[], failing)?;
+    let (ran, is_written) = session_writes(alloc, keeper, lines, written);
+    let (_, is_again) = session_writes(alloc, ran.keeper, questions, again);
+    Ok((ran.status, is_written, is_again))
 }
 
 const NOTHING: &[u8] = b"state records 0 orphans 0 due 0 leased 0 marked 0\nyes\n";
@@ -91,13 +55,12 @@ const NOTHING: &[u8] = b"state records 0 orphans 0 due 0 leased 0 marked 0\nyes\
 const DUE: &[u8] = b"state records 1 orphans 0 due 1 leased 0 marked 0\nno\n";
 
 #[test]
-fn what_is_kept_is_there_again(rt: HostRuntime) -> Result<(), Fail> {
-    let alloc = rt.alloc();
+fn what_is_kept_is_there_again(rt: HostRuntime) -> Result<(), AllocError> {
     for (failing, status, written, again) in CASES.iter() {
-        let (first_status, first, second) = two_sessions(alloc, *failing)?;
-        assert_eq!(rt; first_status, Status(*status));
-        assert_eq!(rt; first.written(), *written);
-        assert_eq!(rt; second.written(), *again);
+        assert_eq!(rt;
+            two_sessions(rt.alloc(), *failing, written, again)?,
+            (Status(*status), true, true)
+        );
     }
     Ok(())
 }
@@ -136,54 +99,80 @@ fn push_forty(alloc: Global, lines: &mut String) -> Result<(), AllocError> {
     lines.push_str("],\"removed\":[]}\nsettle\nlist\n")
 }
 
-// The second settle reaches one Component of 40, and the store follows it there: a second session's documents are those with which the first one ended.
-#[test]
-fn what_settles_reached_is_kept(rt: HostRuntime) -> Result<(), Fail> {
-    let alloc = rt.alloc();
+// What the lines before the list are answered.
+const REPLIES: &[u8] = b"ok\nsettled 1 40 40\nok\nsettled 1 1 1\n";
+
+// How long a second session's list is, if just that stands behind these replies.
+fn length_of_list(first: &[u8], second: &[u8]) -> Option<usize> {
+    let before = first.len().checked_sub(second.len())?;
+    if before == REPLIES.len() && first.starts_with(REPLIES) && first.ends_with(second) {
+        Some(second.len())
+    } else {
+        None
+    }
+}
+
+// The same of a session of those lines and of one that lists.
+fn listed_again(alloc: Global) -> Result<Option<usize>, AllocError> {
     let mut lines = String::new(alloc);
     push_forty(alloc, &mut lines)?;
-    let (ran, first) = session_over(alloc, keeper_of(alloc, &[], 0)?, lines.as_bytes())?;
-    let (_, second) = session_over(alloc, ran.keeper, b"list\n")?;
-    let replies: &[u8] = b"ok\nsettled 1 40 40\nok\nsettled 1 1 1\n";
-    let wanted = [replies, second.written()].concat(alloc)?;
-    assert_eq!(rt; first.written(), wanted.as_slice());
-    assert!(rt; second.written().len() > 4_000);
+    let list = b"list\n".to_vec(alloc)?;
+    let keeper = memory_keeper(alloc, &[], 0)?;
+    let (mut first, mut second) = (sink(alloc), sink(alloc));
+    let ran = session_over(alloc, keeper, lines.into_bytes(), &mut first);
+    let _ran = session_over(alloc, ran.keeper, list, &mut second);
+    Ok(length_of_list(first.written(), second.written()))
+}
+
+// The second settle reaches one Component of 40, and the store follows it there: a second session's documents are those with which the first one ended.
+#[test]
+fn what_settles_reached_is_kept(rt: HostRuntime) -> Result<(), AllocError> {
+    let length = listed_again(rt.alloc())?;
+    assert!(rt; matches!(length, Some(length) if length > 4_000));
     Ok(())
 }
 
+// Rows of which the last one has no reading.
+const UNREAD: [Row; 3] = [
+    (Table::Counters, "arrival", "1"),
+    (Table::Counters, "number", "1"),
+    (Table::Shelf, "file:/r.json", "\"{\" "),
+];
+
+// How a session over those rows ends, and whether it names the last one.
+fn named(alloc: Global) -> Result<(Status, bool), AllocError> {
+    let lines = OWNER.to_vec(alloc)?;
+    let keeper = memory_keeper(alloc, &UNREAD, 0)?;
+    let wanted = b"refused store shelf file:/r.json\n";
+    let (ran, is_named) = session_writes(alloc, keeper, lines, wanted);
+    Ok((ran.status, is_named))
+}
+
 #[test]
-fn a_row_without_a_reading_is_named(rt: HostRuntime) -> Result<(), Fail> {
-    let alloc = rt.alloc();
-    let keeper = keeper_of(
-        alloc,
-        &[
-            (Table::Counters, "arrival", "1"),
-            (Table::Counters, "number", "1"),
-            (Table::Shelf, "file:/r.json", "\"{\" "),
-        ],
-        0,
-    )?;
-    let (ran, sink) = session_over(alloc, keeper, OWNER)?;
-    assert_eq!(rt; ran.status, Status(6));
-    let refused: &[u8] = b"refused store shelf file:/r.json\n";
-    assert_eq!(rt; sink.written(), refused);
+fn a_row_without_a_reading_is_named(rt: HostRuntime) -> Result<(), AllocError> {
+    assert_eq!(rt; named(rt.alloc())?, (Status(6), true));
     Ok(())
+}
+
+const MESSAGE: &[u8] =
+    b"POST /providers/git/full HTTP/1.1\r\nHost: x\r\nContent-Length: 26\r\n\r\n{\"serial\":1,\"entities\":[]}";
+
+const RESPONSES: &[u8] =
+    b"HTTP/1.1 503 Service Unavailable\r\nContent-Type: application/json\r\nContent-Length: 60\r\n\r\n{\"error\":{\"message\":\"keeper\"},\"response\":{\"statusCode\":503}}HTTP/1.1 200 OK\r\nContent-Type: application/json\r\nContent-Length: 15\r\n\r\n{\"again\":false}HTTP/1.1 200 OK\r\nContent-Type: application/json\r\nContent-Length: 14\r\n\r\n{\"again\":true}";
+
+// How a connection of that message three times ends, and whether those are the responses, where the second call of the keeper fails.
+fn answered(alloc: Global) -> Result<(Status, bool), AllocError> {
+    let messages = [MESSAGE, MESSAGE, MESSAGE].concat(alloc)?;
+    let keeper = memory_keeper(alloc, &[], 2)?;
+    let mut source = MemorySource::new(messages, 50, Vec::new(alloc));
+    let mut sink = sink(alloc);
+    let ran = run_stored_connection(alloc, None, Place::Nowhere, keeper, &mut source, &mut sink);
+    Ok((ran.status, sink.written() == RESPONSES))
 }
 
 // Of three messages with one serial the first isn't kept, the second acts, and the third comes again.
 #[test]
-fn a_message_is_refused(rt: HostRuntime) -> Result<(), Fail> {
-    let alloc = rt.alloc();
-    let message: &[u8] =
-        b"POST /providers/git/full HTTP/1.1\r\nHost: x\r\nContent-Length: 26\r\n\r\n{\"serial\":1,\"entities\":[]}";
-    let messages = [message, message, message].concat(alloc)?;
-    let mut source = MemorySource::new(messages, 50, Vec::new(alloc));
-    let mut sink = MemorySink::new(1_000, Vec::new(alloc));
-    let keeper = keeper_of(alloc, &[], 2)?;
-    let ran = run_stored_connection(alloc, None, Place::Nowhere, keeper, &mut source, &mut sink);
-    assert_eq!(rt; ran.status, Status(0));
-    let wanted: &[u8] =
-        b"HTTP/1.1 503 Service Unavailable\r\nContent-Type: application/json\r\nContent-Length: 60\r\n\r\n{\"error\":{\"message\":\"keeper\"},\"response\":{\"statusCode\":503}}HTTP/1.1 200 OK\r\nContent-Type: application/json\r\nContent-Length: 15\r\n\r\n{\"again\":false}HTTP/1.1 200 OK\r\nContent-Type: application/json\r\nContent-Length: 14\r\n\r\n{\"again\":true}";
-    assert_eq!(rt; sink.written(), wanted);
+fn a_message_is_refused(rt: HostRuntime) -> Result<(), AllocError> {
+    assert_eq!(rt; answered(rt.alloc())?, (Status(0), true));
     Ok(())
 }
