@@ -1,7 +1,7 @@
 //! Lines with their commands.
-use crate::case::Case;
 use crate::fault::Fault;
-use crate::shown::{push_number, push_texts};
+use cat_case::case::Case;
+use cat_case::shown::{push_number, push_texts};
 use cat_commands::line::Line;
 use cat_commands::read::read_line;
 use cat_query::ask::Ask;

@@ -1,9 +1,9 @@
 //! Why a case has no answer.
+use cat_case::shown::ShowFault;
 use cat_commands::fault::LineFault;
 use cat_inputs::fault::{InputFault, ShelfFault};
 use cat_query::facets::FacetFault;
 use cat_query::fault::QueryFault;
-use cat_rows::row::RowFault;
 use cat_search::condition::FilterFault;
 use cat_target::target::TargetFault;
 use cat_tree::read::TreeFault;
@@ -16,10 +16,10 @@ use thiserror::Error;
 pub enum Fault {
     #[error("no such question")]
     Question,
-    #[error("not UTF-8")]
-    Bytes,
     #[error("no memory")]
     Memory(#[from(alloc)] AllocError),
+    #[error("{0}")]
+    Show(#[from] ShowFault),
     #[error("{0:?}")]
     Tree(#[from] TreeFault),
     #[error("{0:?}")]
@@ -38,6 +38,4 @@ pub enum Fault {
     Facet(#[from] FacetFault),
     #[error("{0:?}")]
     Line(#[from] LineFault),
-    #[error("{0:?}")]
-    Row(#[from] RowFault),
 }

@@ -1,7 +1,7 @@
 //! Filters, and documents that they accept.
-use crate::case::Case;
 use crate::fault::Fault;
-use crate::shown::truth_text;
+use cat_case::case::Case;
+use cat_case::shown::truth_text;
 use cat_search::condition::Filter;
 use cat_search::index::{Index, find, list_pending};
 use cat_search::matches::matches;

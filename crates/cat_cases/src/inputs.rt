@@ -1,7 +1,7 @@
 //! Bodies of mutations and shelf texts.
-use crate::case::Case;
 use crate::fault::Fault;
-use crate::shown::{push_counted, push_texts, push_word};
+use cat_case::case::Case;
+use cat_case::shown::{push_counted, push_texts, push_word};
 use cat_inputs::form::Form;
 use cat_inputs::input::read_mutation;
 use cat_inputs::shelf::{Listed, shelf_list};

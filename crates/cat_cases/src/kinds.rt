@@ -1,7 +1,7 @@
 //! Entities with their relations, or the faults of their reference fields.
-use crate::case::Case;
 use crate::fault::Fault;
-use crate::shown::push_texts;
+use cat_case::case::Case;
+use cat_case::shown::push_texts;
 use cat_kinds::Relation;
 use cat_kinds::answer::{KindAnswer, KindFault, relations};
 use cat_kinds::mention::{Mention, mentions};

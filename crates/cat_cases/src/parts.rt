@@ -1,7 +1,7 @@
 //! Parts with their documents.
-use crate::case::Case;
 use crate::fault::Fault;
-use crate::shown::{push_json, push_word};
+use cat_case::case::Case;
+use cat_case::shown::{push_json, push_word};
 use cat_stitch::document::document;
 use cat_stitch::issues::{issue_items, issue_name_text, level_text};
 use cat_stitch::make::{empty_map, with_words};
@@ -89,7 +89,7 @@ fn parts(alloc: Global, case: &Case) -> Result<Parts, Fault> {
 // Puts the document of parts behind what stands so far.
 fn push_document(out: &mut String, alloc: Global, parts: &Parts) -> Result<(), Fault> {
     let document = document(alloc, parts)?;
-    push_json(out, alloc, document.tree())
+    push_json(out, alloc, document.tree()).map_err(Fault::Show)
 }
 
 fn push_parts(out: &mut String, alloc: Global, case: &Case) -> Result<(), Fault> {
@@ -105,7 +105,7 @@ fn items(alloc: Global, message: &str) -> Result<Tree, AllocError> {
 
 fn push_items(out: &mut String, alloc: Global, message: &str) -> Result<(), Fault> {
     let items = items(alloc, message)?;
-    push_json(out, alloc, &items)
+    push_json(out, alloc, &items).map_err(Fault::Show)
 }
 
 // A map of two keys with their words.
@@ -116,7 +116,7 @@ fn two_words(alloc: Global, case: &Case) -> Result<Tree, AllocError> {
 
 fn push_two_words(out: &mut String, alloc: Global, case: &Case) -> Result<(), Fault> {
     let tree = two_words(alloc, case)?;
-    push_json(out, alloc, &tree)
+    push_json(out, alloc, &tree).map_err(Fault::Show)
 }
 
 fn push_levels(out: &mut String) -> Result<(), AllocError> {

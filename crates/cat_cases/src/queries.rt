@@ -1,7 +1,7 @@
 //! Queries over documents.
-use crate::case::Case;
 use crate::fault::Fault;
-use crate::shown::{push_bytes, push_counted, push_gap, push_json};
+use cat_case::case::Case;
+use cat_case::shown::{push_bytes, push_counted, push_gap, push_json};
 use cat_pages::page::Page;
 use cat_pages::paging::page;
 use cat_pages::query::{Cursor, Query};
@@ -166,7 +166,7 @@ fn push_counts(
     query: &Query,
 ) -> Result<(), Fault> {
     let tree = facets(alloc, docs, query)?;
-    push_json(out, alloc, &tree)
+    push_json(out, alloc, &tree).map_err(Fault::Show)
 }
 
 // Puts the documents of two references behind bytes.
@@ -211,7 +211,7 @@ fn push_put(
 ) -> Result<(), Fault> {
     let mut bytes = Vec::new(alloc);
     put(alloc, &mut bytes, question, docs, query, case)?;
-    push_bytes(out, bytes.as_slice())
+    push_bytes(out, bytes.as_slice()).map_err(Fault::Show)
 }
 
 // Puts what is asked of documents by a query behind what stands so far.
@@ -253,7 +253,7 @@ fn push_projected(
     query: &Query,
 ) -> Result<(), Fault> {
     let kept = project(alloc, tree, &query.fields)?;
-    push_json(out, alloc, &kept)
+    push_json(out, alloc, &kept).map_err(Fault::Show)
 }
 
 // Puts what is asked of the tree of the second field by a query behind what stands so far.

@@ -1,7 +1,7 @@
 //! Names and references.
-use crate::case::Case;
 use crate::fault::Fault;
-use crate::shown::{push_texts, push_word};
+use cat_case::case::Case;
+use cat_case::shown::{push_texts, push_word};
 use cat_types::names::{
     is_key, is_kind, is_location_type, is_name, is_namespace, is_shelf_name, is_subdomain, is_tag,
 };

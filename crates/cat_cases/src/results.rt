@@ -1,7 +1,7 @@
 //! Entities with their results.
-use crate::case::Case;
 use crate::fault::Fault;
-use crate::shown::{push_json, push_number, push_texts};
+use cat_case::case::Case;
+use cat_case::shown::{push_json, push_number, push_texts};
 use cat_process::contents::{contents, wanted};
 use cat_process::result::result;
 use cat_table::listing::Listing;

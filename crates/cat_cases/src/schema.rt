@@ -1,7 +1,7 @@
 //! Descriptors, and the rules that they break.
-use crate::case::Case;
 use crate::fault::Fault;
-use crate::shown::{push_counted, push_texts};
+use cat_case::case::Case;
+use cat_case::shown::{push_counted, push_texts};
 use cat_schema::faults::SchemaFault;
 use cat_schema::rules::check;
 use cat_tree::tree::Tree;

@@ -1,7 +1,7 @@
 //! Locations with their targets.
-use crate::case::Case;
 use crate::fault::Fault;
-use crate::shown::push_word;
+use cat_case::case::Case;
+use cat_case::shown::push_word;
 use cat_target::target::{Target, targets};
 use cat_tree::tree::Tree;
 use std::alloc::{AllocError, Global};

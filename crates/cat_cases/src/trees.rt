@@ -1,7 +1,7 @@
 //! Trees as texts, what is asked of them, and edits.
-use crate::case::Case;
 use crate::fault::Fault;
-use crate::shown::{push_bytes, push_json, push_number, truth_text};
+use cat_case::case::Case;
+use cat_case::shown::{ShowFault, push_bytes, push_json, push_number, truth_text};
 use cat_tree::ask::{child, depth, grandchild, same};
 use cat_tree::clone::copy;
 use cat_tree::edit::{with_key, without_key};
@@ -12,7 +12,7 @@ use std::alloc::Global;
 // Puts a tree as JSON behind what stands so far, and nothing where there is none.
 fn push_found(out: &mut String, alloc: Global, tree: Option<&Tree>) -> Result<(), Fault> {
     match tree {
-        Some(tree) => push_json(out, alloc, tree),
+        Some(tree) => push_json(out, alloc, tree).map_err(Fault::Show),
         None => Ok(()),
     }
 }
@@ -21,7 +21,7 @@ fn push_found(out: &mut String, alloc: Global, tree: Option<&Tree>) -> Result<()
 fn push_sized(out: &mut String, length: u64, bytes: &[u8]) -> Result<(), Fault> {
     push_number(out, length)?;
     out.push_str(" ")?;
-    push_bytes(out, bytes)
+    push_bytes(out, bytes).map_err(Fault::Show)
 }
 
 // Puts how many bytes a tree is said to need, and the tree as JSON, written where there is room for as many, behind what stands so
@@ -29,7 +29,7 @@ fn push_sized(out: &mut String, length: u64, bytes: &[u8]) -> Result<(), Fault> 
 fn push_within(out: &mut String, alloc: Global, tree: &Tree) -> Result<(), Fault> {
     let length = size(tree);
     if length >= 1 << 62 {
-        return Err(Fault::Bytes);
+        return Err(Fault::Show(ShowFault::Bytes));
     }
     let mut bytes = Vec::with_capacity(alloc, length as usize)?;
     write_within(tree, &mut bytes);
@@ -39,7 +39,7 @@ fn push_within(out: &mut String, alloc: Global, tree: &Tree) -> Result<(), Fault
 // Puts a copy of a tree behind what stands so far.
 fn push_copy(out: &mut String, alloc: Global, tree: &Tree) -> Result<(), Fault> {
     let copied = copy(alloc, tree)?;
-    push_json(out, alloc, &copied)
+    push_json(out, alloc, &copied).map_err(Fault::Show)
 }
 
 // Puts whether a tree is the same as that of the second field behind what stands so far.
@@ -58,7 +58,7 @@ fn push_asked(
     case: &Case,
 ) -> Result<(), Fault> {
     match question {
-        "read" => push_json(out, alloc, tree),
+        "read" => push_json(out, alloc, tree).map_err(Fault::Show),
         "depth" => push_number(out, depth(tree)).map_err(Fault::Memory),
         "child" => push_found(out, alloc, child(tree, case.text(2))),
         "grandchild" => push_found(out, alloc, grandchild(tree, case.text(2), case.text(3))),
@@ -84,12 +84,12 @@ fn edited(alloc: Global, case: &Case) -> Result<Tree, Fault> {
 
 fn with(out: &mut String, alloc: Global, case: &Case) -> Result<(), Fault> {
     let tree = edited(alloc, case)?;
-    push_json(out, alloc, &tree)
+    push_json(out, alloc, &tree).map_err(Fault::Show)
 }
 
 fn without(out: &mut String, alloc: Global, case: &Case) -> Result<(), Fault> {
     let tree = without_key(case.tree(alloc, 1)?, case.text(2));
-    push_json(out, alloc, &tree)
+    push_json(out, alloc, &tree).map_err(Fault::Show)
 }
 
 /// Puts what is asked of the tree of the first field behind what stands so far.

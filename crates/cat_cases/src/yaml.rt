@@ -1,7 +1,7 @@
 //! Texts in block YAML.
-use crate::case::Case;
 use crate::fault::Fault;
-use crate::shown::push_json;
+use cat_case::case::Case;
+use cat_case::shown::push_json;
 use cat_tree::tree::{Tree, Trees};
 use cat_yaml::read::read_yaml;
 use std::alloc::Global;
@@ -10,5 +10,5 @@ use std::alloc::Global;
 pub fn documents(out: &mut String, alloc: Global, case: &Case) -> Result<(), Fault> {
     let documents = read_yaml(alloc, case.bytes(1))?;
     let tree = Tree::List(Trees::from_vec(documents));
-    push_json(out, alloc, &tree)
+    push_json(out, alloc, &tree).map_err(Fault::Show)
 }

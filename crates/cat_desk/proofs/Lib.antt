@@ -3,3 +3,4 @@ pub mod Asked
 pub mod Shown
 pub mod Telling
 pub mod Again
+pub mod Answered

@@ -8,6 +8,9 @@
 //! `Fed` also tells what changed: who asks is told what the feed answers of the catalogue's documents at that time, and the catalogue stays as it
 //! is; no command and no other question changes the feed.
 //!
+//! `TimedDesk` is what a book asks of a catalogue with its clock and its feed, which a store may keep (cat_kept_desk): where a command wasn't kept,
+//! the catalogue is as before, or has just the first event of a settle, and the reply says so (`specs/Kept.antt`). `Fed` is one that no store keeps.
+//!
 //! To take back a command, what the catalogue held before it must be there, and records can't be shared. In place of a copy for each command there
 //! is one spare copy (`spare.rt`), to which each command that stands is done again. The spare copy, where there is one, is what the catalogue holds:
 //! what a command does from one state is the same each time, where its reply says that it was done to its end (`proofs/Again.antt`).
@@ -23,3 +26,4 @@ pub mod fed;
 pub mod feed_desk;
 pub mod spare;
 pub mod timed;
+pub mod timed_desk;

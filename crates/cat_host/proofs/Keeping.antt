@@ -11,8 +11,8 @@ use Rattle.cat_desk.specs.Acts.{Acts}
 use Rattle.cat_desk.specs.Deed.{Deed}
 use Rattle.cat_desk.specs.declared.command.Reply.{Reply}
 use Rattle.cat_io.specs.Causes.{Rose}
-use Rattle.cat_kept_desk.proofs.Answered.{acts_kept, lost_is}
-use Rattle.cat_kept_desk.specs.Deeds.{IsLost, is_lost}
+use Rattle.cat_desk.proofs.Answered.{acts_kept, lost_is}
+use Rattle.cat_desk.specs.Kept.{IsLost, is_lost}
 use Rattle.cat_model.specs.Catalogue.{Rules}
 use Rattle.cat_model.specs.Sound.{Sound}
 use Rattle.cat_model.specs.contracts.types.State.{the_row}

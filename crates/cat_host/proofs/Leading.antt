@@ -11,7 +11,7 @@ use Rattle.cat_desk.specs.Deed.{Deed}
 use Rattle.cat_desk.specs.Deed.Deed.{Mutate, ShelfPut, ShelfDrop, Refresh, Forget, ForgetNumber, Take, Finish, TakeStitch, PutStitch, Settle}
 use Rattle.cat_desk.specs.declared.command.Reply.{Reply}
 use Rattle.cat_desk.specs.declared.command.Reply.TheVariants as replies
-use Rattle.cat_kept_desk.specs.Deeds.{is_keeper}
+use Rattle.cat_desk.specs.Kept.{is_keeper}
 use Rattle.cat_laws.proofs.Asked.{taken_given}
 use Rattle.cat_laws.proofs.Stands.{settle_keeps}
 use Rattle.cat_laws.proofs.Steps.{step_kept}

@@ -4,7 +4,6 @@ pub mod SentOwned
 pub mod SentStates
 pub mod SentBooks
 pub mod SentHelpers
-pub mod SentStores
 pub mod Standing
 pub mod Present
 pub mod Leading

@@ -8,8 +8,8 @@ use Rattle.cat_desk.specs.Deed.{Deed}
 use Rattle.cat_desk.specs.Deed.Deed.{Settle}
 use Rattle.cat_desk.specs.declared.command.Reply.{Reply}
 use Rattle.cat_desk.specs.declared.command.Reply.TheVariants as replies
-use Rattle.cat_kept_desk.proofs.Answered.{acts_kept, lost_is}
-use Rattle.cat_kept_desk.specs.Deeds.{IsCutUnkept, IsLost, IsUnkept, is_lost}
+use Rattle.cat_desk.proofs.Answered.{acts_kept, lost_is}
+use Rattle.cat_desk.specs.Kept.{IsCutUnkept, IsLost, IsUnkept, is_lost}
 use Rattle.cat_laws.proofs.Stands.{settle_keeps}
 use Rattle.cat_model.specs.Catalogue.{Rules}
 use Rattle.cat_model.specs.Settle.{try_settle}

@@ -26,7 +26,7 @@ use Rattle.cat_host.specs.contracts.entry.Entry as Entry
 use Rattle.cat_host.specs.contracts.entry.Input as Input
 use Rattle.cat_host.specs.contracts.entry.Noted as Noted
 use Rattle.cat_host.specs.contracts.shared.SharedDesk as SharedDesk
-use Rattle.cat_host.specs.declared.timed.TimedDesk as TimedDesk
+use Rattle.cat_desk.specs.declared.timed_desk.TimedDesk as TimedDesk
 use Rattle.cat_host.specs.contracts.tells.BookTells.TheImpl as tells
 use Rattle.cat_host.proofs.SentStates.{known, state_send, links_send, Map-send, Map-sync}
 use Rattle.cat_turns.proofs.SentTurns.{turns_sync, pass_send}

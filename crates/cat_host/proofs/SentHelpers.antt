@@ -11,7 +11,7 @@ use Rattle.cat_events.specs.contracts.done.Done as Done
 use Rattle.cat_events.specs.contracts.done.Stitched as Stitched
 use Rattle.cat_host.specs.declared.book.Named as Named
 use Rattle.cat_host.specs.contracts.shared.SharedDesk as SharedDesk
-use Rattle.cat_host.specs.declared.timed.TimedDesk as TimedDesk
+use Rattle.cat_desk.specs.declared.timed_desk.TimedDesk as TimedDesk
 use Rattle.cat_api.specs.contracts.service.Service as Service
 use Rattle.cat_host.specs.contracts.answering.Answering as Answering
 use Rattle.cat_host.specs.contracts.share.Share as Share

@@ -9,7 +9,7 @@ use Rattle.cat_desk.specs.Deed.{Deed}
 use Rattle.cat_desk.specs.Deed.Deed.{Settle}
 use Rattle.cat_desk.specs.declared.command.Reply.{Reply}
 use Rattle.cat_desk.specs.declared.command.Reply.TheVariants as replies
-use Rattle.cat_kept_desk.specs.Deeds.{IsLost}
+use Rattle.cat_desk.specs.Kept.{IsLost}
 use Rattle.cat_model.specs.Catalogue.{Rules}
 use Rattle.cat_host.specs.Notes.{IsNoted}
 use Rattle.cat_host.specs.declared.entry.Entry.{Entry}

@@ -16,10 +16,10 @@ ghost use Rattle.cat_host.specs.Replay.{replay};
 
 use crate::entry::Entry;
 use crate::notes::{lacking, note, worked};
-use crate::timed::TimedDesk;
 use cat_core::catalogue::{Done, Stitched};
 use cat_desk::command::{Asked, Command, Reply};
 use cat_desk::feed_desk::FeedAnswer;
+use cat_desk::timed_desk::TimedDesk;
 use cat_feed::change::Since;
 use cat_hold::layers::Layers;
 use cat_query::ask::Ask;

@@ -14,8 +14,8 @@
 //! It carries the promise that what serves and what works share one history: each of them is led on by what its share does with a command or a
 //! question, and by nothing else. The doors end it, closed or failing, with their cause.
 //!
-//! It stands on cat_desk for a catalogue with its clock and its feed, on cat_kept_desk for one that a store keeps, on cat_turns for the turns, on
-//! cat_wire and cat_api for messages, on cat_work for the loops of workers, and on cat_doors for the helpers beside each other.
+//! It stands on cat_desk for a catalogue with its clock and its feed, which a store may keep (`TimedDesk`), on cat_turns for the turns, on cat_wire
+//! and cat_api for messages, on cat_work for the loops of workers, and on cat_doors for the helpers beside each other.
 #![tactic(auto)]
 
 mod answering;
@@ -26,7 +26,6 @@ mod notes;
 mod share;
 pub mod shared;
 mod tells;
-pub mod timed;
 mod work;
 mod working;
 mod works;

@@ -3,7 +3,7 @@ ghost use Rattle.std.specs.Prelude.{◌≡◌, ◌⊎◌, true, IfOk};
 ghost use Rattle.cat_core.specs.declared.ledger.Ledger.{Ledger};
 ghost use Rattle.cat_desk.specs.Acts.{Acts};
 ghost use Rattle.cat_desk.specs.Deed.{deed_of};
-ghost use Rattle.cat_kept_desk.specs.Deeds.{IsLost, is_keeper, is_lost};
+ghost use Rattle.cat_desk.specs.Kept.{IsLost, is_keeper, is_lost};
 ghost use Rattle.cat_host.specs.Book.{lacking};
 ghost use Rattle.cat_host.specs.Notes.{IsNoteOf, IsNoted, is_noted, settled_note, unkept_note, worked};
 

@@ -4,10 +4,10 @@ ghost use Rattle.cat_host.specs.Shared.{SharedActs};
 
 use crate::book::Named;
 use crate::shared::SharedDesk;
-use crate::timed::TimedDesk;
 use cat_core::catalogue::{Done, Stitched};
 use cat_desk::command::{Command, Reply};
 use cat_desk::desk::Desk;
+use cat_desk::timed_desk::TimedDesk;
 use cat_hold::layers::Layers;
 use cat_model::types::{Order, StitchOrder};
 use cat_work::desk::WorkDesk;

@@ -5,7 +5,6 @@ ghost use Rattle.cat_desk.specs.Shown.{is_shown};
 ghost use Rattle.cat_host.specs.Shared.{SharedActs, SharedAsks, SharedTells};
 
 use crate::book::{Book, Named};
-use crate::timed::TimedDesk;
 use crate::work::at_turn;
 use crate::works::{Acting, Asking, Copying, Telling};
 use cat_core::catalogue::{Done, Stitched};
@@ -13,6 +12,7 @@ use cat_desk::asks::{is_shown, write_shown};
 use cat_desk::command::{Asked, Command, Reply};
 use cat_desk::desk::Desk;
 use cat_desk::feed_desk::{FeedAnswer, FeedDesk};
+use cat_desk::timed_desk::TimedDesk;
 use cat_feed::change::Since;
 use cat_hold::layers::Layers;
 use cat_query::ask::Ask;

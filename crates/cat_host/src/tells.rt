@@ -3,7 +3,7 @@ ghost use Rattle.std.specs.Prelude.{◌≡◌};
 
 use crate::book::{Book, Named};
 use crate::entry::Entry;
-use crate::timed::TimedDesk;
+use cat_desk::timed_desk::TimedDesk;
 use cat_hold::layers::Layers;
 use cat_turns::Tells;
 

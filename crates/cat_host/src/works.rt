@@ -8,11 +8,11 @@ ghost use Rattle.cat_desk.specs.declared.feed_desk.FeedAnswer.TheVariants as tol
 ghost use Rattle.cat_host.specs.Book.{Does, Lacks};
 
 use crate::book::{Book, Named};
-use crate::timed::TimedDesk;
 use crate::work::Work;
 use cat_core::catalogue::{Done, Stitched};
 use cat_desk::command::{Asked, Command, Reply};
 use cat_desk::feed_desk::FeedAnswer;
+use cat_desk::timed_desk::TimedDesk;
 use cat_feed::change::Since;
 use cat_hold::layers::Layers;
 use cat_query::ask::Ask;

@@ -35,7 +35,8 @@ use Rattle.cat_replies.specs.Events.{cut_by_keeper}
 use Rattle.cat_kept.specs.Carried.{CarriesKept, IsCut, IsRefused}
 use Rattle.cat_kept.specs.Kept.{changes, is_settle, is_single, kept_after, kept_reply, may_be_cut, may_be_refused, one_refused, refused_keeper, settle_events}
 use Rattle.cat_kept.specs.declared.state.KeptState.{KeptState}
-use Rattle.cat_kept_desk.specs.Followed.{IsFollowed, one_more}
+use Rattle.cat_desk.specs.Kept.{one_more}
+use Rattle.cat_kept_desk.specs.Followed.{IsFollowed}
 use Rattle.cat_keeper.specs.Answers.{Are}
 use Rattle.cat_keeper.specs.Store.{Rows}
 

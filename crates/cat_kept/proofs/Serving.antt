@@ -21,9 +21,8 @@ use Rattle.cat_http.specs.declared.message.Message.{Message}
 use Rattle.cat_http.specs.declared.reply.HttpReply.{HttpReply}
 use Rattle.cat_io.specs.Clock.{CountsReading}
 use Rattle.cat_keeper.specs.declared.keeper.Place.{Place}
-use Rattle.cat_kept_desk.specs.Deeds.{KeptActs}
-use Rattle.cat_kept_desk.proofs.Answered.{settle_is}
-use Rattle.cat_kept_desk.specs.Followed.{one_more}
+use Rattle.cat_desk.specs.Kept.{KeptActs, one_more}
+use Rattle.cat_desk.proofs.Answered.{settle_is}
 use Rattle.cat_io.specs.Word as deeds
 use Rattle.cat_model.specs.Catalogue.{Rules}
 use Rattle.cat_model.specs.Settle.{try_settle}

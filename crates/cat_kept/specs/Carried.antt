@@ -10,7 +10,7 @@ use Rattle.cat_transcript.specs.Program.{program_settings}
 use Rattle.cat_transcript.specs.Session.{after_reading}
 use Rattle.cat_transcript.specs.declared.state.RuledSession.{RuledSession}
 use Rattle.cat_kept.specs.Kept.{is_settle, is_single, refused_keeper, settle_events}
-use Rattle.cat_kept_desk.specs.Followed.{one_more}
+use Rattle.cat_desk.specs.Kept.{one_more}
 
 -- a settle was cut behind its first event, since what follows it wasn't kept: just that event stands, and this is the reply
 pub record IsCut (rules : Rules) (old new : RuledSession) (text : List ℕ) : Type 0 where

@@ -6,7 +6,7 @@ use Rattle.cat_commands.specs.Lines.{line_of}
 use Rattle.cat_commands.specs.declared.fault.LineFault.{LineFault}
 use Rattle.cat_commands.specs.declared.line.Line.{Line}
 use Rattle.cat_commands.specs.declared.line.Line.TheVariants as asks
-use Rattle.cat_kept_desk.specs.Followed.{one_more}
+use Rattle.cat_desk.specs.Kept.{one_more}
 use Rattle.cat_io.specs.Word.{Word, plain, memory, cut, unkept, cut_unkept, After, Reply}
 use Rattle.cat_model.specs.Catalogue.{Rules}
 use Rattle.cat_replies.specs.Events.{cut_by_keeper}

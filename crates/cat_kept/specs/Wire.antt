@@ -9,8 +9,7 @@ use Rattle.cat_api.specs.Wire.{Wired, wire_after, wire_reply}
 use Rattle.cat_http.specs.Reply.{reply_bytes}
 use Rattle.cat_http.specs.declared.message.Message.{Message}
 use Rattle.cat_keeper.specs.declared.keeper.Place.{Place}
-use Rattle.cat_kept_desk.specs.Deeds.{is_settle, leaves_rows}
-use Rattle.cat_kept_desk.specs.Followed.{one_more}
+use Rattle.cat_desk.specs.Kept.{is_settle, leaves_rows, one_more}
 use Rattle.cat_model.specs.Catalogue.{Rules}
 use Rattle.cat_model.specs.Settle.{try_settle}
 use Rattle.cat_model.specs.declared.types.State.{State}

@@ -20,7 +20,7 @@ use Rattle.cat_model.specs.declared.types.State.{State}
 use Rattle.cat_store.proofs.Unstored.{put_stitch_still, refresh_still, step_still, take_still}
 use Rattle.cat_table.specs.Table.{get, text_cmp}
 use Rattle.cat_tables.specs.Stored.{stored}
-use Rattle.cat_kept_desk.specs.Deeds.{leaves_rows}
+use Rattle.cat_desk.specs.Kept.{leaves_rows}
 
 some_not : {A : Type 0} (v : Option A) → is_none v ≡ true → is_some v ≡ false
 some_not None h = refl

@@ -1,4 +1,3 @@
-pub mod Answered
 pub mod Deeds
 pub mod Followed
 pub mod Beyond

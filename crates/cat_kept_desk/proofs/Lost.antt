@@ -12,7 +12,7 @@ use Rattle.cat_desk.specs.declared.command.Reply.{Reply}
 use Rattle.cat_desk.specs.declared.command.Reply.TheVariants.{Cut, Refused}
 use Rattle.cat_model.specs.Catalogue.{Rules}
 use Rattle.cat_model.specs.Settle.{try_settle}
-use Rattle.cat_kept_desk.specs.Deeds.{IsCutUnkept, KeptActs}
+use Rattle.cat_desk.specs.Kept.{IsCutUnkept, KeptActs}
 
 -- what was done to a ledger, or wasn't kept, was so of one that is the same
 pub kept_from : (rules : Rules) (now : ℕ) (d : Deed) (old back new : Ledger) (count count' : ℕ) (reply : Reply) → back.settings ≡ old.settings → back.state ≡ old.state

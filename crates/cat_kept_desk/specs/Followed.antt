@@ -1,14 +1,10 @@
 -- What follows a catalogue's state.
-use Rattle.std.specs.Prelude.{◌≡◌, ◌+◌, ◌-◌, ◌^◌, ℕ, Option, min}
+use Rattle.std.specs.Prelude.{◌≡◌, Option}
 use Rattle.cat_keeper.specs.Answers.{Are}
 use Rattle.cat_keeper.specs.Store.{Rows}
 use Rattle.cat_model.specs.declared.types.OrphanRule.{OrphanRule}
 use Rattle.cat_model.specs.declared.types.State.{State}
 use Rattle.cat_tables.specs.Stored.{Stored, stored, texts_of}
-
--- a count of one more, which stays at the last value of a u64
-abbrev pub one_more : ℕ → ℕ
-one_more n = min (n + 1) (2 ^ 64 - 1)
 
 -- A store follows a state under a rule for orphans, and what the keeper tells are the rows of that state.
 pub record IsFollowed (told : Option Rows) (orphans : OrphanRule) (rows : Stored) (rule : OrphanRule) (m : State) : Type 0 where

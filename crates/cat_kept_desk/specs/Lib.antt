@@ -1,3 +1,2 @@
 pub mod Followed
-pub mod Deeds
 pub mod Reached

@@ -8,7 +8,7 @@ ghost use Rattle.cat_desk.specs.Told.{Tells};
 ghost use Rattle.cat_feed.specs.Feed.{begun};
 ghost use Rattle.cat_io.specs.Causes.{Rose};
 ghost use Rattle.cat_io.specs.Clock.{CountsReading};
-ghost use Rattle.cat_kept_desk.specs.Deeds.{KeptActs, is_lost, is_settle, leaves_rows};
+ghost use Rattle.cat_desk.specs.Kept.{KeptActs, is_lost, is_settle, leaves_rows};
 ghost use Rattle.cat_keeper.specs.Answers.{Are};
 ghost use Rattle.cat_keeper.specs.declared.keeper.Committed.TheVariants.{Kept};
 ghost use Rattle.cat_kept_desk.specs.Followed.{IsFollowed};

@@ -10,12 +10,13 @@
 //! catalogue (cat_desk), so that records aren't copied for each. There is none at first, and after a settle of more than 64 leases or one that was cut, a
 //! mutation of more than 64 items, and a command that wasn't kept or lacked memory: then the next command that may change the stored rows makes one.
 //!
-//! It stands on cat_desk for what a command does and for the feed, and on cat_store for the store. It carries the promise that between two
-//! commands a keeper that tells its tables holds those of the catalogue's state, that the keeper's fault is answered only where it counted one, and
-//! that a spare copy is what the catalogue holds.
+//! It stands on cat_desk for what a command does, for the feed and for what a book asks of it (`TimedDesk`), and on cat_store for the store. It
+//! carries the promise that between two commands a keeper that tells its tables holds those of the catalogue's state, that the keeper's fault is
+//! answered only where it counted one, and that a spare copy is what the catalogue holds.
 #![tactic(auto)]
 
 pub mod desk;
 mod reaching;
+mod timed;
 
 pub use desk::KeptDesk;

@@ -1,13 +1,14 @@
 //! Two connections that are served at once, beside workers.
 use cat_doors::{Accepted, Connection, Doors, Listened};
-use cat_io::{FixedClock, MemorySink, MemorySource, ReadAnswer, Sink, Source, WriteAnswer};
+use cat_io::{FixedClock, MemorySink, ReadAnswer, Sink, Source, WriteAnswer};
 use cat_keeper::keeper::{Committed, Keeper, Loaded, Place};
 use cat_keeper::memory::MemoryKeeper;
 use cat_keeper::rows::Batch;
 use cat_keeper::table::Table;
+use cat_server::run_server;
 use cat_table::map::Map;
-use cat_tool::run;
 use cat_wire::Status;
+use cat_words::{Command, command_of};
 use std::alloc::Global;
 use std::sync::atomic::{AtomicBool, AtomicU64, Ordering};
 use std::test::Fail;
@@ -248,7 +249,6 @@ fn a_connection_hears_what_workers_make(rt: HostRuntime) -> Result<(), Fail> {
         found: AtomicBool::new(false),
         kept: AtomicBool::new(false),
     };
-    let mut source = MemorySource::new(Vec::new(alloc), 1, Vec::new(alloc));
     let mut sink = MemorySink::new(1, Vec::new(alloc));
     let mut doors = Porch {
         scene: &scene,
@@ -258,11 +258,14 @@ fn a_connection_hears_what_workers_make(rt: HostRuntime) -> Result<(), Fail> {
         keeper: MemoryKeeper::new(Map::new(), Vec::new(alloc)),
         scene: &scene,
     };
-    let ended = run(
+    let Some(Command::Serve(serving)) = command_of(words.as_slice()) else {
+        panic!(rt; "no server")
+    };
+    let ended = run_server(
         &rt,
         alloc,
         words.as_slice(),
-        &mut source,
+        serving,
         &mut sink,
         FixedClock::at(0),
         &mut doors,

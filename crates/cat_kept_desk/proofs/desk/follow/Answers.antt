@@ -12,10 +12,10 @@ use Rattle.cat_tables.specs.Stored.{Stored, stored}
 use Rattle.cat_kept_desk.specs.Followed.{IsFollowed}
 use Rattle.cat_desk.specs.Spare.{IsSpare}
 use Rattle.cat_desk.proofs.Again.{acts_from}
-use Rattle.cat_kept_desk.proofs.Answered.{acts_kept}
+use Rattle.cat_desk.proofs.Answered.{acts_kept}
 use Rattle.cat_kept_desk.proofs.Deeds.{needs_some}
 use Rattle.cat_kept_desk.proofs.Lost.{kept_counts, kept_from}
-use Rattle.cat_kept_desk.specs.Deeds.{leaves_rows}
+use Rattle.cat_desk.specs.Kept.{leaves_rows}
 use Rattle.cat_kept_desk.proofs.Followed.{followed}
 use Rattle.cat_kept_desk.proofs.Beyond.{command_reaches}
 use Rattle.cat_kept_desk.proofs.desk.follow.Goals as goal

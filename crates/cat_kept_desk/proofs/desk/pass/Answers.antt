@@ -7,7 +7,7 @@ use Rattle.cat_desk.specs.Deed.{deed_of}
 use Rattle.cat_tables.specs.Stored.{stored}
 use Rattle.cat_desk.specs.Spare.{IsSpare}
 use Rattle.cat_desk.proofs.Again.{acts_from}
-use Rattle.cat_kept_desk.proofs.Answered.{acts_kept}
+use Rattle.cat_desk.proofs.Answered.{acts_kept}
 use Rattle.cat_kept_desk.proofs.Deeds.{deed_still}
 use Rattle.cat_kept_desk.proofs.desk.pass.Goals as goal
 

@@ -1,7 +1,7 @@
 use Rattle.std.proofs.Common.{refl, sym, ◌∙◌, inl, inr}
 use Rattle.cat_desk.specs.Deed.{deed_of}
 use Rattle.cat_desk.specs.Deed.Deed.{Settle}
-use Rattle.cat_kept_desk.proofs.Answered.{settle_is}
+use Rattle.cat_desk.proofs.Answered.{settle_is}
 use Rattle.cat_kept_desk.proofs.Lost.{kept_of}
 use Rattle.cat_kept_desk.proofs.desk.unkept.Goals as goal
 

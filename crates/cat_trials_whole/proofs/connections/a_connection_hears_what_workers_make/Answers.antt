@@ -6,5 +6,5 @@ use Rattle.cat_trials_whole.specs.contracts.connections.Watched as Watched
 use Rattle.cat_trials_whole.proofs.Sent.{keeper_send}
 use Rattle.cat_trials_whole.proofs.connections.a_connection_hears_what_workers_make.Goals as goal
 
-pub run-ended-requires-send-K : goal.run-ended-requires-send-K
-run-ended-requires-send-K g c κs = λ e. param_send _ _ (arg_send _ no _ (declared_send (Watched.the_type _) (search (keeper_send, known) depth 60, (search known depth 60, tt))))
+pub run_server-ended-requires-send-K : goal.run_server-ended-requires-send-K
+run_server-ended-requires-send-K g c κs = λ e. param_send _ _ (arg_send _ no _ (declared_send (Watched.the_type _) (search (keeper_send, known) depth 60, (search known depth 60, tt))))
