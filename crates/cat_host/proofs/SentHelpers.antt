@@ -9,15 +9,15 @@ use Rattle.cat_model.specs.contracts.types.StitchOrder as StitchOrder
 use Rattle.cat_hold.specs.declared.layers.Layers as Layers
 use Rattle.cat_events.specs.contracts.done.Done as Done
 use Rattle.cat_events.specs.contracts.done.Stitched as Stitched
-use Rattle.cat_host.specs.declared.book.Named as Named
-use Rattle.cat_host.specs.contracts.shared.SharedDesk as SharedDesk
+use Rattle.cat_book.specs.declared.book.Named as Named
+use Rattle.cat_book.specs.contracts.shared.SharedDesk as SharedDesk
 use Rattle.cat_desk.specs.declared.timed_desk.TimedDesk as TimedDesk
 use Rattle.cat_api.specs.contracts.service.Service as Service
 use Rattle.cat_host.specs.contracts.answering.Answering as Answering
 use Rattle.cat_host.specs.contracts.share.Share as Share
 use Rattle.cat_host.specs.contracts.working.Working as Working
-use Rattle.cat_host.proofs.SentBooks.{book_send, order_sync, shared_send, stitch_order_sync}
-use Rattle.cat_host.proofs.SentStates.{known, output_send}
+use Rattle.cat_book.proofs.SentBooks.{book_send, order_sync, shared_send, stitch_order_sync}
+use Rattle.cat_book.proofs.SentStates.{known, output_send}
 
 outcome_send : IsSend Outcome.the_row
 outcome_send = variants_send Outcome.enum ((output_send, (search known depth 60, tt)), ((search known depth 60, tt), tt))

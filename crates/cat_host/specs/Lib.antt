@@ -1,6 +1,2 @@
 pub mod Answered
 pub mod Worked
-pub mod Notes
-pub mod Replay
-pub mod Book
-pub mod Shared

@@ -4,11 +4,11 @@ ghost use Rattle.cat_doors.specs.Hall.{HasCause};
 ghost use Rattle.cat_model.specs.Sound.{Sound};
 
 use crate::answering::Answering;
-use crate::book::{Book, Named};
 use crate::share::Share;
-use crate::shared::SharedDesk;
 use crate::working::{Part, Working};
 use cat_api::service::Service;
+use cat_book::book::{Book, Named};
+use cat_book::shared::SharedDesk;
 use cat_core::catalogue::{Done, Stitched};
 use cat_desk::timed_desk::TimedDesk;
 use cat_doors::{Doors, Ended, Helper, serve};

@@ -1,9 +1,9 @@
 //! A share of a book, as the desk of a worker.
 ghost use Rattle.std.specs.Prelude.{◌≡◌};
-ghost use Rattle.cat_host.specs.Shared.{SharedActs};
+ghost use Rattle.cat_book.specs.Shared.{SharedActs};
 
-use crate::book::Named;
-use crate::shared::SharedDesk;
+use cat_book::book::Named;
+use cat_book::shared::SharedDesk;
 use cat_core::catalogue::{Done, Stitched};
 use cat_desk::command::{Command, Reply};
 use cat_desk::desk::Desk;

@@ -7,7 +7,7 @@ use Rattle.cat_keeper.specs.declared.keeper.Keeper as Keeper
 use Rattle.cat_kept_desk.specs.contracts.desk.KeptDesk as KeptDesk
 use Rattle.cat_layers.specs.contracts.layered.Layered as Layered
 use Rattle.cat_layers.specs.contracts.layered.LayeredLayers.TheImpl as layers
-use Rattle.cat_host.proofs.SentBooks.{fed_send}
+use Rattle.cat_book.proofs.SentBooks.{fed_send}
 use Rattle.cat_server.proofs.SentStores.{kept_desk_send}
 
 layered_send : IsSend Layered.the_row

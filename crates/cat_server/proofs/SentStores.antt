@@ -10,8 +10,8 @@ use Rattle.cat_rows.specs.contracts.row.StoredOutput as StoredOutput
 use Rattle.cat_rows.specs.contracts.row.StoredRow as StoredRow
 use Rattle.cat_store.specs.contracts.store.Store as Store
 use Rattle.cat_kept_desk.specs.contracts.desk.KeptDesk as KeptDesk
-use Rattle.cat_host.proofs.SentBooks.{catalogue_send, saved_send}
-use Rattle.cat_host.proofs.SentStates.{known, Map-send, Map-sync}
+use Rattle.cat_book.proofs.SentBooks.{catalogue_send, saved_send}
+use Rattle.cat_book.proofs.SentStates.{known, Map-send, Map-sync}
 
 -- ---- rows
 

@@ -5,16 +5,16 @@ use denote.RattleType.{RattleType}
 use denote.Ref.{NamedLft}
 use Rattle.cat_desk.specs.contracts.fed.Fed as Fed
 use Rattle.cat_host.specs.contracts.share.Share as Share
-use Rattle.cat_host.specs.contracts.shared.SharedDesk as SharedDesk
-use Rattle.cat_host.specs.declared.book.Named as Named
+use Rattle.cat_book.specs.contracts.shared.SharedDesk as SharedDesk
+use Rattle.cat_book.specs.declared.book.Named as Named
 use Rattle.cat_desk.specs.declared.timed_desk.TimedDesk as TimedDesk
 use Rattle.cat_io.specs.contracts.clock.FixedClock as FixedClock
 use Rattle.cat_keeper.specs.contracts.memory.MemoryKeeper as MemoryKeeper
 use Rattle.cat_keeper.specs.contracts.memory.MemoryKeeper.TheInside as inside
 use Rattle.cat_layers.specs.contracts.layered.Layered as Layered
 use Rattle.cat_layers.specs.contracts.layered.LayeredLayers.TheImpl as layers
-use Rattle.cat_host.proofs.SentBooks.{book_send, fed_send, shared_send}
-use Rattle.cat_host.proofs.SentStates.{Map-send, known}
+use Rattle.cat_book.proofs.SentBooks.{book_send, fed_send, shared_send}
+use Rattle.cat_book.proofs.SentStates.{Map-send, known}
 
 pub keeper_send : IsSend MemoryKeeper.the_row
 keeper_send = view_send _ _ _ _ _ (declared_send inside.the_type (search (Map-send, known) depth 60, (search known depth 60, tt)))

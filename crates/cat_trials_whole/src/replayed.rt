@@ -2,13 +2,13 @@
 ghost use Rattle.std.specs.Prelude.{◌≡◌};
 
 use crate::workers::{Empty, Pages, Still, empty_book};
+use cat_book::entry::{Entry, Input, Noted};
+use cat_book::shared::SharedDesk;
 use cat_core::catalogue::{Catalogue, Done, Stitched};
 use cat_core::fault::CoreFault;
 use cat_desk::command::{Command, Reply};
 use cat_desk::desk::Desk;
 use cat_host::Share;
-use cat_host::entry::{Entry, Input, Noted};
-use cat_host::shared::SharedDesk;
 use cat_inputs::form::Form;
 use cat_inputs::input::read_mutation;
 use cat_layers::layered::Layered;

@@ -1,14 +1,14 @@
 //! Two workers whose orders are out at once.
 ghost use Rattle.std.specs.Prelude.{◌≡◌, []};
 
+use cat_book::book::{Book, Named};
+use cat_book::shared::SharedDesk;
 use cat_core::catalogue::{Catalogue, Done, Stitched};
 use cat_desk::command::Command;
 use cat_desk::desk::Desk;
 use cat_desk::fed::Fed;
 use cat_desk::timed::Timed;
 use cat_host::Share;
-use cat_host::book::{Book, Named};
-use cat_host::shared::SharedDesk;
 use cat_inputs::form::Form;
 use cat_inputs::input::read_mutation;
 use cat_io::FixedClock;

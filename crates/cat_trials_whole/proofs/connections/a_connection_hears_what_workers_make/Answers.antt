@@ -1,7 +1,7 @@
 use denote.Exit.{no}
 use denote.Param.Send.{arg_send, param_send}
 use denote.Param.SendFields.{declared_send}
-use Rattle.cat_host.proofs.SentStates.{known}
+use Rattle.cat_book.proofs.SentStates.{known}
 use Rattle.cat_trials_whole.specs.contracts.connections.Watched as Watched
 use Rattle.cat_trials_whole.proofs.Sent.{keeper_send}
 use Rattle.cat_trials_whole.proofs.connections.a_connection_hears_what_workers_make.Goals as goal

@@ -3,7 +3,7 @@ use denote.Param.Send.{IsSend, IsSync, arg_send, param_send, sendable}
 use denote.Param.SendFields.{declared_send, variants_send}
 use denote.RattleType.{RattleType}
 use denote.Ref.{NamedLft}
-use Rattle.cat_host.proofs.SentStates.{known}
+use Rattle.cat_book.proofs.SentStates.{known}
 use Rattle.cat_trials_whole.specs.contracts.replayed.Client as Client
 use Rattle.cat_trials_whole.specs.contracts.replayed.Helper as Helper
 use Rattle.cat_trials_whole.specs.contracts.workers.Empty as Empty

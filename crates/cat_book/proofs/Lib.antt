@@ -1,0 +1,12 @@
+pub mod SentTrees
+pub mod SentMaps
+pub mod SentOwned
+pub mod SentStates
+pub mod SentBooks
+pub mod Standing
+pub mod Present
+pub mod Leading
+pub mod Losing
+pub mod Noting
+pub mod Keeping
+pub mod Sharing

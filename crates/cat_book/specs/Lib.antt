@@ -1,0 +1,4 @@
+pub mod Notes
+pub mod Replay
+pub mod Book
+pub mod Shared
