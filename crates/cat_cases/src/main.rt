@@ -1,62 +1,32 @@
-//! Cases of descriptors, what they come to, and questions: what is asked in a line of standard input, and what comes of it.
+//! Cases as lines: what is asked in a line of standard input, and what comes of it.
 //!
-//! How lines are read and answers told stands in the module comment of `cat_case`. It promises nothing.
+//! How lines are read and answers told stands in the module comment of `cat_case`; what the questions are, in `cat_format_cases`, `cat_store_cases`
+//! and `cat_random`. It promises nothing.
 #![tactic(auto)]
 
-mod commands;
-mod fault;
-mod filters;
-mod inputs;
-mod kinds;
-mod parts;
-mod queries;
-mod references;
-mod results;
-mod schema;
-mod targets;
-mod trees;
-mod yaml;
-
-use crate::fault::Fault;
 use cat_case::case::Case;
 use cat_case::lines::{Line, read_lines};
 use cat_case::shown::push_line;
 use std::alloc::{AllocError, Global};
 use std::io::{self, Read, Write};
 
-// Puts what comes of a case behind what stands so far.
-fn answer(out: &mut String, alloc: Global, case: &Case) -> Result<(), Fault> {
-    let (subject, question) = case.asked();
-    match subject {
-        "tree" => trees::answer(out, alloc, question, case),
-        "reference" => references::answer(out, alloc, question, case),
-        "schema" => schema::faults(out, alloc, case),
-        "kind" => kinds::answer(out, alloc, question, case),
-        "target" => targets::names(out, alloc, case),
-        "input" => inputs::answer(out, alloc, question, case),
-        "result" => results::answer(out, alloc, question, case),
-        "part" => parts::answer(out, alloc, question, case),
-        "filter" => filters::answer(out, alloc, question, case),
-        "query" => queries::answer(out, alloc, question, case),
-        "line" => commands::command(out, alloc, case),
-        "yaml" => yaml::documents(out, alloc, case),
-        _ => Err(Fault::Question),
+// The answer, or the name of the fault, where some crate has the subject.
+fn found(alloc: Global, case: &Case) -> Result<Option<String>, AllocError> {
+    if let Some(text) = cat_format_cases::told(alloc, case)? {
+        return Ok(Some(text));
     }
-}
-
-// The answer, or the name of the fault.
-fn told(alloc: Global, case: &Case) -> Result<String, AllocError> {
-    let mut out = String::new(alloc);
-    match answer(&mut out, alloc, case) {
-        Ok(()) => Ok(out),
-        Err(fault) => format!(in alloc; "{fault}"),
+    if let Some(text) = cat_store_cases::told(alloc, case)? {
+        return Ok(Some(text));
     }
+    cat_random::told(alloc, case)
 }
 
 // Puts the line of an answer behind those so far.
 fn push_told(out: &mut Vec<u8>, alloc: Global, case: &Case) -> Result<(), AllocError> {
-    let text = told(alloc, case)?;
-    push_line(out, text.as_str())
+    match found(alloc, case)? {
+        Some(text) => push_line(out, text.as_str()),
+        None => push_line(out, "no such question"),
+    }
 }
 
 // Puts what comes of a line behind what came of those so far.

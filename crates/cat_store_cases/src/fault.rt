@@ -9,6 +9,8 @@ use thiserror::Error;
 /// Why a case has no answer. It is shown as the name of the fault.
 #[derive(Debug, Drop, Error)]
 pub enum Fault {
+    #[error("no such subject")]
+    Subject,
     #[error("no such question")]
     Question,
     #[error("no memory")]

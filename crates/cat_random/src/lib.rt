@@ -1,11 +1,11 @@
 //! Sessions of events that are drawn, over the real layers, and what comes of their documents.
 //!
-//! A line of standard input has a seed and how many events. They are mutations by two providers, texts of a shelf, refreshes, entities that
+//! A case `session drawn` (cat_case) has a seed and how many events. They are mutations by two providers, texts of a shelf, refreshes, entities that
 //! are forgotten, results and documents that workers bring, and settles, about some forty references, so that they meet: rows wait
 //! for one that holds, Locations offer each other in a circle, texts break off, and what nobody offers any more is an orphan; with an even
 //! seed it is deleted. After each settle the documents are compared with those that the plain program of `cat_fresh` computes from
-//! scratch. For each line one is written: the seed, how many events acted, were refused and were settles, how many documents and orphans
-//! are there at the end, and `fresh`, or `differs` where one settle left other documents. It promises nothing.
+//! scratch. The answer has the seed, how many events acted, were refused and were settles, how many documents and orphans are there at the
+//! end, and `fresh`, or `differs` where one settle left other documents. It promises nothing.
 #![tactic(auto)]
 
 mod afresh;
@@ -16,12 +16,12 @@ mod texts;
 use crate::afresh::are_fresh;
 use crate::draws::Draws;
 use crate::events::{Came, event};
+use cat_case::case::Case;
 use cat_core::catalogue::Catalogue;
 use cat_layers::layered::Layered;
 use cat_model::types::{OrphanRule, Settings};
 use itoa::Buffer;
 use std::alloc::{AllocError, Global};
-use std::io::{self, Read, Write};
 
 // How many events came to what, and whether all documents were fresh.
 #[derive(Drop)]
@@ -99,10 +99,10 @@ fn push_tally(
             orphans,
         ],
     )?;
-    out.push_str(if tally.fresh { "fresh\n" } else { "differs\n" })
+    out.push_str(if tally.fresh { "fresh" } else { "differs" })
 }
 
-// Puts the line of a session over a catalogue behind those so far.
+// Puts what came of a session over a catalogue behind what stands so far.
 fn push_told(
     alloc: Global,
     out: &mut String,
@@ -125,7 +125,7 @@ fn push_told(
     push_tally(out, catalogue, &tally)
 }
 
-// Puts the line of a session behind those so far.
+// Puts what came of a session behind what stands so far.
 fn push_session(alloc: Global, out: &mut String, seed: u64, events: u64) -> Result<(), AllocError> {
     let mut catalogue = empty(alloc, seed);
     let told = push_told(alloc, out, &mut catalogue, seed, events);
@@ -133,24 +133,17 @@ fn push_session(alloc: Global, out: &mut String, seed: u64, events: u64) -> Resu
     told
 }
 
-// A line for each line.
-fn sessions(alloc: Global, text: &str) -> Result<String, AllocError> {
+// The answer to a case of a drawn session, which has a seed and how many events.
+fn drawn(alloc: Global, case: &Case) -> Result<String, AllocError> {
     let mut out = String::new(alloc);
-    for line in text.lines() {
-        let (seed, events) = line.split_once(' ').unwrap_or((line, ""));
-        let seed = seed.parse::<u64>().unwrap_or(0);
-        let events = events.parse::<u64>().unwrap_or(0);
-        push_session(alloc, &mut out, seed, events)?;
-    }
+    push_session(alloc, &mut out, case.number(1), case.number(2))?;
     Ok(out)
 }
 
-fn main(rt: HostRuntime) -> io::Result<()> {
-    let alloc = rt.alloc();
-    let mut text = String::new(alloc);
-    rt.stdin().read_to_string(&mut text)?;
-    match sessions(alloc, text.as_str()) {
-        Ok(out) => rt.stdout().write_all(out.as_str().as_bytes()),
-        Err(_) => println!(rt; "no memory"),
+/// The answer to a case of a drawn session, and none of a case of another subject. The error is want of memory.
+pub fn told(alloc: Global, case: &Case) -> Result<Option<String>, AllocError> {
+    match case.asked() {
+        ("session", "drawn") => Ok(Some(drawn(alloc, case)?)),
+        _ => Ok(None),
     }
 }
