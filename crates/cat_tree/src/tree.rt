@@ -32,17 +32,29 @@ pub enum Tree {
 
 /// Trees in order: the members of a list. Contracts see the list of their data.
 #[cycle(tree)]
-#[derive(Drop)]
 pub struct Trees {
     items: Vec<Tree>,
+}
+
+impl Drop for Trees {
+    #[cycle(let_go)]
+    fn drop(self) {
+        let Trees { items: _ } = self;
+    }
 }
 
 /// Keys with their trees, in byte order of the keys, each key once: the members of a map. Contracts
 /// see the list of keys with data.
 #[cycle(tree)]
-#[derive(Drop)]
 pub struct Pairs {
     items: Vec<(Text, Tree)>,
+}
+
+impl Drop for Pairs {
+    #[cycle(let_go)]
+    fn drop(self) {
+        let Pairs { items: _ } = self;
+    }
 }
 
 impl Model for Trees {
@@ -125,7 +137,8 @@ impl Trees {
     pub fn into_vec(self) -> Vec<Tree>
         ensures { map data_of result.items ≡ self }
     {
-        self.items
+        let Trees { items } = self;
+        items
     }
 
     /// Lends the trees.
@@ -164,7 +177,8 @@ impl Pairs {
         ensures entries { map entry_of result.items ≡ self }
         ensures rising { IsRising self }
     {
-        self.items
+        let Pairs { items } = self;
+        items
     }
 
     /// Lends the tree at a key; none where the key is absent.
