@@ -1,11 +1,9 @@
 //! The bytes of replies.
 ghost use Rattle.std.specs.Prelude.{◌≡◌, ◌≤◌, ◌<◌, ◌+◌, ◌++◌, [], if◌then◌else◌, ◌==◌, ◌||◌, codes, length, flat_map, IsTrue, OnOk, OnErr, is_ok, vec_len, vec_capacity};
-ghost use Rattle.http.specs.StatusCode.{code_digits};
 ghost use Rattle.cat_http.specs.Reply.{is_named, phrase_of, joined, status_line, content_lines, allow_line, close_line, end_of, reply_bytes, Adds};
 
 use crate::body::{Bytes, Texts};
 use cat_tree::text::Text;
-use http::StatusCode;
 use itoa::Buffer;
 use std::alloc::AllocError;
 
@@ -47,33 +45,33 @@ fn put_three(out: &mut Vec<u8>, first: &[u8], second: &[u8], third: &[u8]) -> Re
     put_two(out, second, third)
 }
 
-fn code_of(status: u16) -> &'static str
-    requires { IsTrue (is_named status) }
-    ensures { result.now ≡ code_digits status }
-{
-    match StatusCode::from_u16(status) {
-        Ok(code) => code.as_str(),
-        Err(_) => unreachable!(),
-    }
-}
-
+// The digits and the phrase of a status (RFC 9110, section 15), and nothing for a status that no reply has.
 fn phrase(status: u16) -> &'static str
-    requires { IsTrue (is_named status) }
     ensures { result.now ≡ phrase_of status }
 {
-    match StatusCode::from_u16(status) {
-        Ok(code) => code.canonical_reason().unwrap_or(""),
-        Err(_) => unreachable!(),
+    match status {
+        200 => "200 OK",
+        204 => "204 No Content",
+        400 => "400 Bad Request",
+        404 => "404 Not Found",
+        405 => "405 Method Not Allowed",
+        409 => "409 Conflict",
+        410 => "410 Gone",
+        413 => "413 Payload Too Large",
+        431 => "431 Request Header Fields Too Large",
+        500 => "500 Internal Server Error",
+        501 => "501 Not Implemented",
+        503 => "503 Service Unavailable",
+        507 => "507 Insufficient Storage",
+        _ => "",
     }
 }
 
 fn put_status(out: &mut Vec<u8>, status: u16) -> Result<(), AllocError>
-    requires { IsTrue (is_named status) }
     ensures { Adds out.old.items out.new.items (vec_capacity out.old) (vec_capacity out.new)
         (is_ok result) (status_line status) }
 {
-    put_two(out, b"HTTP/1.1 ", code_of(status).as_bytes())?;
-    put_three(out, b" ", phrase(status).as_bytes(), b"\r\n")
+    put_three(out, b"HTTP/1.1 ", phrase(status).as_bytes(), b"\r\n")
 }
 
 fn put_content(out: &mut Vec<u8>, status: u16, body: &[u8]) -> Result<(), AllocError>
