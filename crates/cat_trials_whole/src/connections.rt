@@ -8,7 +8,7 @@ use cat_keeper::table::Table;
 use cat_server::run_server;
 use cat_table::map::Map;
 use cat_wire::Status;
-use cat_words::{Command, command_of};
+use cat_words::Serving;
 use std::alloc::Global;
 use std::sync::atomic::{AtomicBool, AtomicU64, Ordering};
 use std::test::Fail;
@@ -258,8 +258,11 @@ fn a_connection_hears_what_workers_make(rt: HostRuntime) -> Result<(), Fail> {
         keeper: MemoryKeeper::new(Map::new(), Vec::new(alloc)),
         scene: &scene,
     };
-    let Some(Command::Serve(serving)) = command_of(words.as_slice()) else {
-        panic!(rt; "no server")
+    let serving = Serving {
+        orphans: None,
+        kept: true,
+        workers: 1,
+        connections: 2,
     };
     let ended = run_server(
         &rt,
