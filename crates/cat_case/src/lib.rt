@@ -7,7 +7,7 @@
 //! `ababab`. In an answer LF, CR, TAB and `^` are such bytes, and a byte that stands a hundred times or more is told once, with how
 //! often it stands.
 //!
-//! `cat_cases` and `cat_store_cases` answer them. It promises nothing.
+//! `cat_format_cases`, `cat_store_cases` and `cat_random` answer them, for the program `cat_cases`. It promises nothing.
 #![tactic(auto)]
 
 pub mod case;

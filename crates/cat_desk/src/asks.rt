@@ -46,10 +46,11 @@ pub fn write_ask<L: Layers>(
 /// How many documents a question has listed at most before it is answered.
 const LISTED_AT_ONCE: usize = 1024;
 
-// Whether a question looks through the documents.
-fn looks_through(ask: &Ask) -> bool {
+// Whether a question chooses among the documents. A list without filters shows them all.
+fn chooses(ask: &Ask) -> bool {
     match ask {
-        Ask::List(_) | Ask::Page(_) | Ask::Facets(_) => true,
+        Ask::List(query) => !query.filters.is_empty(),
+        Ask::Page(_) | Ask::Facets(_) => true,
         Ask::Get(_)
         | Ask::Many(..)
         | Ask::Number(_)
@@ -61,11 +62,11 @@ fn looks_through(ask: &Ask) -> bool {
     }
 }
 
-/// Has the catalogue list some of the documents that wait for it, where a question looks through the documents. Contracts see no difference.
+/// Has the catalogue list some of the documents that wait for it, where a question chooses among the documents. Contracts see no difference.
 pub fn prepare<L: Layers>(alloc: Global, catalogue: &mut Catalogue<L>, ask: &Ask)
     ensures { catalogue.new ≡ catalogue.old }
 {
-    if looks_through(ask) {
+    if chooses(ask) {
         catalogue.list_documents(alloc, LISTED_AT_ONCE);
     }
 }

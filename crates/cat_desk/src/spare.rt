@@ -45,8 +45,8 @@ fn leaves_records(reply: &Reply) -> bool
     }
 }
 
-// Whether a reply says that its command was done to its end.
-fn says_whole(reply: &Reply) -> bool
+/// Whether a reply says that its command was done to its end.
+pub fn says_whole(reply: &Reply) -> bool
     ensures { result ≡ says_whole reply.now }
 {
     match reply {
@@ -75,11 +75,19 @@ fn is_large(mutation: &Mutation) -> bool {
     }
 }
 
+/// Whether a settle had more than 64 leases, so that a copy is cheaper than to settle again. Nothing rests on the answer.
+pub fn is_long_settle(reply: &Reply) -> bool {
+    match reply {
+        Reply::Settled(counts) => counts.leases > LEASES,
+        _ => false,
+    }
+}
+
 // Whether a command was dearer than a copy is. Nothing rests on the answer.
 fn is_dear<L: Layers>(command: &Command<Done<'_, L>, Stitched<'_, L>>, reply: &Reply) -> bool {
     match (command, reply) {
         (Command::Mutate(_, mutation), Reply::Mutated(Acted::Now)) => is_large(mutation),
-        (Command::Settle, Reply::Settled(counts)) => counts.leases > LEASES,
+        (Command::Settle, _) => is_long_settle(reply),
         _ => false,
     }
 }
@@ -102,8 +110,12 @@ fn done_again<L: Layers>(
     reply
 }
 
-// What was saved as a spare copy, all but its records shared with a catalogue that holds the same records. None where memory lacks.
-fn shared<L: Layers>(alloc: Global, catalogue: &Catalogue<L>, saved: Saved<L>) -> Option<Saved<L>>
+/// What was saved as a spare copy, all but its records shared with a catalogue that holds the same records. None where memory lacks.
+pub fn shared<L: Layers>(
+    alloc: Global,
+    catalogue: &Catalogue<L>,
+    saved: Saved<L>,
+) -> Option<Saved<L>>
     requires { saved.records ≡ catalogue.now.state.records }
     ensures { IsSpare result catalogue.now.state }
 {

@@ -52,6 +52,16 @@ impl<L: Layers, C: Clock> Timed<L, C> {
         self.catalogue.put_back(saved);
     }
 
+    /// Exchanges what the catalogue holds with what was saved. No memory is taken.
+    pub fn exchange(&mut self, saved: &mut Saved<L>)
+        ensures state { self.new.catalogue.state ≡ saved.old }
+        ensures saved { saved.new ≡ self.old.catalogue.state }
+        ensures settings { self.new.catalogue.settings ≡ self.old.catalogue.settings }
+        ensures clock { self.new.clock ≡ self.old.clock }
+    {
+        self.catalogue.exchange(saved);
+    }
+
     /// Does what a command says, which stays with the caller, and answers it with the moment at which it came.
     pub fn act_at(
         &mut self,

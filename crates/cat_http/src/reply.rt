@@ -45,7 +45,8 @@ fn put_three(out: &mut Vec<u8>, first: &[u8], second: &[u8], third: &[u8]) -> Re
     put_two(out, second, third)
 }
 
-// The digits and the phrase of a status (RFC 9110, section 15), and nothing for a status that no reply has.
+// The digits and the phrase of a status (RFC 9110, section 15, but for the older phrase of 413; RFC 6585 for 431, RFC 4918 for 507), and
+// nothing for a status that no reply has.
 fn phrase(status: u16) -> &'static str
     ensures { result.now ≡ phrase_of status }
 {

@@ -1,5 +1,5 @@
 -- A kept session stays sound.
-use Rattle.std.proofs.Common.{ℕ, Bool, true, false, if◌then◌else◌, List, [], ◌∷◌}
+use Rattle.std.proofs.Common.{ℕ, Bool, true, false, if◌then◌else◌, List}
 use Rattle.cat_laws.proofs.Stands.{settle_keeps}
 use Rattle.cat_laws.proofs.Steps.{step_kept}
 use Rattle.cat_io.proofs.Keeping.{Keeps, after_lines-keeps}

@@ -7,7 +7,7 @@ use Rattle.cat_commands.specs.declared.fault.LineFault.{LineFault}
 use Rattle.cat_commands.specs.declared.line.Line.{Line}
 use Rattle.cat_commands.specs.declared.line.Line.TheVariants as asks
 use Rattle.cat_desk.specs.Kept.{one_more}
-use Rattle.cat_io.specs.Word.{Word, plain, memory, cut, unkept, cut_unkept, After, Reply}
+use Rattle.cat_io.specs.Word.{plain, memory, cut, unkept, cut_unkept, After, Reply}
 use Rattle.cat_model.specs.Catalogue.{Rules}
 use Rattle.cat_replies.specs.Events.{cut_by_keeper}
 use Rattle.cat_transcript.specs.Program.{program_settings, ruled_after, ruled_reply}
@@ -31,6 +31,13 @@ changes (asks.Stitch after) = false
 changes (asks.Place ticket) = false
 changes asks.Settle = true
 changes (asks.Ask ask) = false
+
+-- whether a line leaves what the catalogue holds as it is
+abbrev pub leaves_state : Line → Bool
+leaves_state (asks.Clock now) = true
+leaves_state (asks.Stitch after) = true
+leaves_state (asks.Ask ask) = true
+leaves_state _ = false
 
 -- whether a line is a settle, of which the first event may stand and the others not
 abbrev pub is_settle : Line → Bool

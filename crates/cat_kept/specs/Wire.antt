@@ -19,7 +19,7 @@ use Rattle.cat_requests.specs.declared.answer.Answer.TheVariants.{Refused}
 use Rattle.cat_requests.specs.declared.refusal.Refusal.{Refusal}
 use Rattle.cat_requests.specs.declared.refusal.Refusal.TheVariants.{CutByKeeper, Keeper}
 use Rattle.cat_requests.specs.declared.request.Request.{Request}
-use Rattle.cat_wire.specs.Worded.{Word, plain, memory, cut, untold, unkept, cut_unkept, After, Reply}
+use Rattle.cat_wire.specs.Worded.{plain, memory, cut, untold, unkept, cut_unkept, After, Reply}
 
 -- a catalogue and its feed, the place of the store that keeps the catalogue, and how many messages weren't kept, where the count stays at the
 -- last value of a u64

@@ -1,19 +1,25 @@
 //! A session, and its store.
-ghost use Rattle.std.specs.Prelude.{◌≡◌, ◌≢◌, ◌≤◌, [], true, false, IfOk, OnErr, vec_capacity};
+ghost use Rattle.std.specs.Prelude.{◌≡◌, ◌≢◌, ◌≤◌, [], true, false, IfOk, IsOk, OnErr, vec_capacity};
+ghost use Rattle.std.specs.Option.{ForSome};
+ghost use Rattle.std.specs.declared.option.Option.TheVariants.{None};
+ghost use Rattle.std.specs.declared.result.Result.TheVariants.{Ok};
+ghost use Rattle.cat_commands.specs.Lines.{line_of};
 ghost use Rattle.cat_commands.specs.Ready.{IsReady};
+ghost use Rattle.cat_commands.specs.declared.line.Line.{Line};
+ghost use Rattle.cat_desk.specs.Spare.{IsSpare};
 ghost use Rattle.cat_io.specs.Causes.{Rose};
 ghost use Rattle.cat_keeper.specs.Answers.{Are};
 ghost use Rattle.cat_keeper.specs.declared.keeper.Committed.TheVariants.{Kept};
 ghost use Rattle.cat_kept.specs.About.{IsReachedFrom};
 ghost use Rattle.cat_kept.specs.Carried.{CarriesKept, IsCut};
-ghost use Rattle.cat_kept.specs.Kept.{changes, is_settle, kept_after, kept_reply, refused_keeper};
+ghost use Rattle.cat_kept.specs.Kept.{changes, is_settle, kept_after, kept_reply, leaves_state, refused_keeper};
 ghost use Rattle.cat_kept_desk.specs.Followed.{IsFollowed};
 ghost use Rattle.cat_io.specs.Word.{AnswersLine};
 ghost use Rattle.cat_model.specs.Sound.{AreOffers, AreSmall};
 ghost use Rattle.cat_reached.specs.Gathered.{IsWithin};
 ghost use Rattle.cat_renewed.specs.Renewed.{IsBeyond};
 ghost use Rattle.cat_renewed.specs.declared.reached.Reached.{Reached};
-ghost use Rattle.cat_session.specs.Carried.{Carries};
+ghost use Rattle.cat_session.specs.Carried.{Carries, acts_on_state, after_whole, put_back};
 ghost use Rattle.cat_replies.specs.Events.{cut_by_keeper};
 ghost use Rattle.cat_tables.specs.Stored.{stored, texts_of};
 
@@ -26,7 +32,8 @@ use cat_io::Machine;
 use cat_keeper::keeper::{Committed, Keeper};
 use cat_model::types::State;
 use cat_replies::events::push_cut_by_keeper;
-use cat_session::Session;
+use cat_session::again::brought_up;
+use cat_session::{Outcome, Session};
 use cat_store::store::Store;
 use cat_table::listing::Listing;
 use cat_types::reference::Ref;
@@ -34,18 +41,21 @@ use std::alloc::{AllocError, Global};
 use std::marker::Model;
 
 /// A session over a catalogue, with the store that follows it. Its type keeps that a keeper which tells its tables holds those of the
-/// catalogue's state.
+/// catalogue's state, and that a spare copy is what the catalogue holds.
 #[derive(Drop)]
 pub struct KeptSession<L: Layers, K: Keeper> {
     alloc: Global,
     session: Session<L>,
     store: Store<K>,
+    // a second copy of what the catalogue holds, to which it is put back where the next line isn't kept
+    spare: Option<Saved<L>>,
     // how many lines weren't kept
     refusals: u64,
 }
 
 impl<L: Layers, K: Keeper> Model for KeptSession<L, K> {
     ghost use Rattle.std.specs.Prelude.{◌≤◌};
+    ghost use Rattle.cat_desk.specs.Spare.{IsSpare};
     ghost use Rattle.cat_kept_desk.specs.Followed.{IsFollowed};
     ghost use Rattle.cat_kept.specs.contracts.state.KeptState.{the_row};
     ghost use Rattle.cat_kept.specs.declared.state.KeptState.{KeptState};
@@ -56,7 +66,7 @@ impl<L: Layers, K: Keeper> Model for KeptSession<L, K> {
 
     ghost view = { λ a. record { ruled = a.session; place = a.store.place; refusals = a.refusals } };
 
-    ghost invariant = { λ a. IsFollowed (K.tables a.store.place a.store.keeper) a.store.orphans a.store.rows a.session.orphans a.session.session.state × (a.refusals ≤ K.faults a.store.keeper) };
+    ghost invariant = { λ a. IsFollowed (K.tables a.store.place a.store.keeper) a.store.orphans a.store.rows a.session.orphans a.session.session.state × ((a.refusals ≤ K.faults a.store.keeper) × IsSpare a.spare a.session.session.state) };
 }
 
 // The most bytes of the reply to a settle, and some.
@@ -96,44 +106,93 @@ fn is_settle(line: &Line) -> bool
     matches!(line, Line::Settle)
 }
 
-// Carries out a line that may not change the stored rows.
-fn pass<L: Layers>(session: &mut Session<L>, line: Line) -> Result<Vec<u8>, AllocError>
+// Whether a line leaves what the catalogue holds as it is.
+fn leaves_state(line: &Line) -> bool
+    ensures { result ≡ leaves_state line.now }
+{
+    matches!(line, Line::Clock(_) | Line::Stitch(_) | Line::Ask(_))
+}
+
+// Carries out a line that leaves what the catalogue holds as it is.
+fn carry_unchanging<L: Layers>(session: &mut Session<L>, line: Line) -> Result<Vec<u8>, AllocError>
+    requires ready { IsReady line }
+    requires leaves { leaves_state line ≡ true }
+    ensures ok { IfOk result (λ text. Carries L.rules line session.old session.new text.items) }
+    ensures err { OnErr result (session.new ≡ session.old) }
+    ensures state { session.new.session.state ≡ session.old.session.state }
+    ensures rule { session.new.orphans ≡ session.old.orphans }
+{
+    session.carry_out(line)
+}
+
+// Carries out a line that may not change the stored rows, and brings the spare copy, where there is one, to what the catalogue holds after it.
+fn pass<L: Layers>(
+    alloc: Global,
+    session: &mut Session<L>,
+    spare: &mut Option<Saved<L>>,
+    bytes: &[u8],
+    line: Line,
+) -> Result<Vec<u8>, AllocError>
+    requires read { line_of bytes.now ≡ Ok line }
     requires ready { IsReady line }
     requires stays { changes line ≡ false }
+    requires spared { IsSpare spare.old session.old.session.state }
     ensures ok { IfOk result (λ text. Carries L.rules line session.old session.new text.items) }
     ensures err { OnErr result (session.new ≡ session.old) }
     ensures rule { session.new.orphans ≡ session.old.orphans }
     ensures rows { stored session.old.orphans session.new.session.state ≡ stored session.old.orphans session.old.session.state }
+    ensures spared { IsSpare spare.new session.new.session.state }
 {
+    if leaves_state(&line) {
+        return carry_unchanging(session, line);
+    }
     let _state = session.view();
-    session.carry_out(line)
-}
-
-// Carries out a line, and gives the reply with the references that a settle reached, where they were gathered.
-fn carry_out<L: Layers>(
-    session: &mut Session<L>,
-    line: Line,
-) -> Result<(Vec<u8>, Option<Listing<Ref>>), AllocError>
-    requires { IsReady line }
-    ensures text { IfOk result (λ x. Carries L.rules line session.old session.new x.0.items) }
-    ensures settled { IfOk result (λ x. IsWithin x.1 session.old.session.state session.new.session.state) }
-    ensures err { OnErr result (session.new ≡ session.old) }
-{
-    match line {
-        Line::Settle => session.settle_reaching(),
-        line => {
-            let text = session.carry_out(line)?;
-            Ok((text, None))
+    let saved = spare.take();
+    match session.carry_reaching(line) {
+        Ok(
+            Outcome {
+                text,
+                repeatable,
+                ..
+            },
+        ) => {
+            *spare = after_line(alloc, session, saved, bytes, repeatable);
+            Ok(text)
+        }
+        Err(_) => {
+            *spare = saved;
+            Err(AllocError)
         }
     }
 }
 
-// What a line is answered where its change is kept and where it isn't, the references that a settle reached, where they were gathered, room for what a settle
-// is answered that isn't kept, and what the catalogue held before the line.
+// The copy that stood for what the catalogue held before a line, where there was one, as what it holds after it. None where the line isn't carried out
+// again.
+fn after_line<L: Layers>(
+    alloc: Global,
+    session: &mut Session<L>,
+    saved: Option<Saved<L>>,
+    bytes: &[u8],
+    repeatable: bool,
+) -> Option<Saved<L>>
+    requires { repeatable ≡ true → (l : Line) → line_of bytes.now ≡ Ok l → acts_on_state l ≡ true
+        → ForSome saved (λ held. session.old.session.state ≡ (after_whole L.rules l (put_back session.old held)).session.state) }
+    ensures session { session.new ≡ session.old }
+    ensures spare { IsSpare result session.old.session.state }
+{
+    let saved = saved?;
+    if !repeatable {
+        drop(saved);
+        return None;
+    }
+    brought_up(alloc, session, saved, bytes)
+}
+
+// What came of a line, what it is answered where its change isn't kept, room for what a settle is answered that isn't kept, and what the catalogue held before
+// the line.
 #[derive(Drop)]
 struct Carried<L: Layers> {
-    text: Vec<u8>,
-    settled: Option<Listing<Ref>>,
+    outcome: Outcome,
     refused: Vec<u8>,
     room: Vec<u8>,
     saved: Saved<L>,
@@ -143,30 +202,34 @@ struct Carried<L: Layers> {
 fn carry<L: Layers>(
     alloc: Global,
     session: &mut Session<L>,
+    spare: &mut Option<Saved<L>>,
     line: Line,
 ) -> Result<Carried<L>, AllocError>
-    requires { IsReady line }
-    ensures text { IfOk result (λ x. Carries L.rules line session.old session.new x.text.items) }
-    ensures settled { IfOk result (λ x. IsWithin x.settled session.old.session.state session.new.session.state) }
+    requires ready { IsReady line }
+    requires spared { IsSpare spare.old session.old.session.state }
+    ensures text { IfOk result (λ x. Carries L.rules line session.old session.new x.outcome.text.items) }
+    ensures whole { IfOk result (λ x. x.outcome.repeatable ≡ true → session.new ≡ after_whole L.rules line session.old) }
+    ensures settled { IfOk result (λ x. IsWithin x.outcome.reached session.old.session.state session.new.session.state) }
     ensures refused { IfOk result (λ x. x.refused.items ≡ refused_keeper) }
     ensures room { IfOk result (λ x. 128 ≤ vec_capacity x.room) }
     ensures empty { IfOk result (λ x. x.room.items ≡ []) }
     ensures saved { IfOk result (λ x. x.saved ≡ session.old.session.state) }
     ensures err { OnErr result (session.new ≡ session.old) }
+    ensures spared { IsSpare spare.new session.new.session.state }
+    ensures none { IsOk result → spare.new ≡ None }
 {
     let refused = refusal(alloc)?;
     let room = Vec::with_capacity(alloc, ROOM)?;
-    let saved = session.saved()?;
-    match carry_out(session, line) {
-        Ok((text, settled)) => Ok(Carried {
-            text,
-            settled,
+    let saved = session.saved(spare)?;
+    match session.carry_reaching(line) {
+        Ok(outcome) => Ok(Carried {
+            outcome,
             refused,
             room,
             saved,
         }),
         Err(_) => {
-            drop(saved);
+            *spare = Some(saved);
             Err(AllocError)
         }
     }
@@ -259,32 +322,41 @@ fn follow<L: Layers, K: Keeper>(
     alloc: Global,
     session: &mut Session<L>,
     store: &mut Store<K>,
+    spare: &mut Option<Saved<L>>,
     refusals: &mut u64,
+    bytes: &[u8],
     line: Line,
 ) -> Result<Vec<u8>, AllocError>
+    requires read { line_of bytes.now ≡ Ok line }
     requires ready { IsReady line }
     requires changes { changes line ≡ true }
     requires followed { IsFollowed (K.tables store.old.place store.old.keeper) store.old.orphans store.old.rows session.old.orphans session.old.session.state }
+    requires spared { IsSpare spare.old session.old.session.state }
     ensures ok { IfOk result (λ text. CarriesKept L.rules line session.old session.new refusals.old refusals.new text.items) }
     ensures err { OnErr result ((session.new ≡ session.old) × (refusals.new ≡ refusals.old)) }
     // A line that isn't kept is one more than before, and so is the keeper's count of faults.
     ensures cause { refusals.old ≤ K.faults store.old.keeper → refusals.new ≤ K.faults store.new.keeper }
     ensures followed { IsFollowed (K.tables store.new.place store.new.keeper) store.new.orphans store.new.rows session.new.orphans session.new.session.state }
     ensures place { store.new.place ≡ store.old.place }
+    ensures spared { IsSpare spare.new session.new.session.state }
 {
     let _before = session.sound_state();
     let about = line_about(alloc, session, &line)?;
     let is_settle = is_settle(&line);
     let Carried {
-        text,
-        settled,
+        outcome,
         refused,
         room,
         saved,
-    } = carry(alloc, session, line)?;
-    match keep(alloc, store, about, settled, &saved, session.sound_state()) {
+    } = carry(alloc, session, spare, line)?;
+    let Outcome {
+        text,
+        repeatable,
+        reached,
+    } = outcome;
+    match keep(alloc, store, about, reached, &saved, session.sound_state()) {
         Committed::Kept => {
-            drop(saved);
+            *spare = after_line(alloc, session, Some(saved), bytes, repeatable);
             Ok(text)
         }
         Committed::Failed => {
@@ -305,23 +377,26 @@ fn answer_line<L: Layers, K: Keeper>(
     alloc: Global,
     session: &mut Session<L>,
     store: &mut Store<K>,
+    spare: &mut Option<Saved<L>>,
     refusals: &mut u64,
     line: &[u8],
 ) -> Result<Vec<u8>, AllocError>
-    requires { IsFollowed (K.tables store.old.place store.old.keeper) store.old.orphans store.old.rows session.old.orphans session.old.session.state }
+    requires followed { IsFollowed (K.tables store.old.place store.old.keeper) store.old.orphans store.old.rows session.old.orphans session.old.session.state }
+    requires spared { IsSpare spare.old session.old.session.state }
     ensures ok { IfOk result (λ text. AnswersLine (kept_after L.rules) (kept_reply L.rules) (record { ruled = session.old; place = store.old.place; refusals = refusals.old })
         (record { ruled = session.new; place = store.new.place; refusals = refusals.new }) line.now text.items) }
     ensures err { OnErr result ((session.new ≡ session.old) × (refusals.new ≡ refusals.old)) }
     ensures cause { refusals.old ≤ K.faults store.old.keeper → refusals.new ≤ K.faults store.new.keeper }
     ensures followed { IsFollowed (K.tables store.new.place store.new.keeper) store.new.orphans store.new.rows session.new.orphans session.new.session.state }
     ensures place { store.new.place ≡ store.old.place }
+    ensures spared { IsSpare spare.new session.new.session.state }
 {
     match read_line(alloc, line) {
-        Ok(line) => {
-            if may_change(&line) {
-                follow(alloc, session, store, refusals, line)
+        Ok(read) => {
+            if may_change(&read) {
+                follow(alloc, session, store, spare, refusals, line, read)
             } else {
-                pass(session, line)
+                pass(alloc, session, spare, line, read)
             }
         }
         Err(fault) => session.refused(fault),
@@ -338,6 +413,7 @@ impl<L: Layers, K: Keeper> KeptSession<L, K> {
             alloc,
             session,
             store,
+            spare: None,
             refusals: 0,
         }
     }
@@ -365,6 +441,7 @@ impl<L: Layers, K: Keeper> Machine for KeptSession<L, K> {
             self.alloc,
             &mut self.session,
             &mut self.store,
+            &mut self.spare,
             &mut self.refusals,
             line,
         )

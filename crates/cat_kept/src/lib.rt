@@ -4,7 +4,9 @@
 //! line is answered; a line whose change the keeper refuses is answered `refused keeper`, and all is as before it. A settle is committed as one
 //! batch; where the keeper refuses it, it is cut behind its first event, which changes no stored row, and answered `cut 1 keeper`, or where memory
 //! lacks for that event it is not done at all, as any line that lacks memory. Only those rows are made that a line reached (cat_reached), and all
-//! rows are made and compared for a settle alone, where the references that it reached weren't gathered. `kept_connection` answers the messages of
+//! rows are made and compared for a settle alone, where the references that it reached weren't gathered. What takes a line back is a spare copy of what
+//! the catalogue held before it, on which the line is carried out again where it was kept; only the first line that changes something copies the records, and
+//! the first one behind a long line, a long settle, a take or a line that wasn't kept. `kept_connection` answers the messages of
 //! a connection by a desk whose catalogue is kept, at the moment 0; a message whose change wasn't kept is answered 503 and counted.
 //!
 //! `run_stored` opens the store that a keeper has at a place, answers the lines of a source over the catalogue that it keeps, and hands the keeper

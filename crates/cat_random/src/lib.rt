@@ -17,10 +17,10 @@ use crate::afresh::are_fresh;
 use crate::draws::Draws;
 use crate::events::{Came, event};
 use cat_case::case::Case;
+use cat_case::shown::push_number;
 use cat_core::catalogue::Catalogue;
 use cat_layers::layered::Layered;
 use cat_model::types::{OrphanRule, Settings};
-use itoa::Buffer;
 use std::alloc::{AllocError, Global};
 
 // How many events came to what, and whether all documents were fresh.
@@ -66,17 +66,11 @@ fn count(
     Ok(())
 }
 
-// Puts a number, and a text behind it, behind what stands so far.
-fn push_number(out: &mut String, number: u64, behind: &str) -> Result<(), AllocError> {
-    let mut buffer = Buffer::new();
-    out.push_str(buffer.format(number))?;
-    out.push_str(behind)
-}
-
 // Puts numbers, and a space behind each, behind what stands so far.
 fn push_numbers(out: &mut String, numbers: &[u64]) -> Result<(), AllocError> {
     for number in numbers {
-        push_number(out, *number, " ")?;
+        push_number(out, *number)?;
+        out.push_str(" ")?;
     }
     Ok(())
 }
@@ -121,7 +115,8 @@ fn push_told(
         let came = event(alloc, catalogue, number, &mut draws)?;
         count(alloc, catalogue, came, &mut tally)?;
     }
-    push_number(out, seed, ": ")?;
+    push_number(out, seed)?;
+    out.push_str(": ")?;
     push_tally(out, catalogue, &tally)
 }
 

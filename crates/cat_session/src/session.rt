@@ -1,16 +1,18 @@
 //! A session's state, and its answer to a line.
-ghost use Rattle.std.specs.Prelude.{◌≡◌, ◌<◌, ◌≤◌, ◌-◌, ◌^◌, [], IfOk, IsTrue, OnErr, option_map};
-ghost use Rattle.std.specs.declared.option.Option.TheVariants.{Some};
+ghost use Rattle.std.specs.Prelude.{◌≡◌, ◌<◌, ◌≤◌, ◌-◌, ◌^◌, [], true, IfOk, IsTrue, OnErr, option_map};
+ghost use Rattle.std.specs.declared.option.Option.TheVariants.{None, Some};
 ghost use Rattle.std.specs.FinMap.Entries.{is_sorted};
 ghost use Rattle.cat_commands.specs.declared.line.Line.TheVariants as asks;
 ghost use Rattle.cat_commands.specs.Ready.{IsReady};
+ghost use Rattle.cat_desk.specs.Acts.{done};
 ghost use Rattle.cat_desk.specs.Deed.{Deed, deed_of};
+ghost use Rattle.cat_desk.specs.Spare.{IsSpare};
 ghost use Rattle.cat_reached.specs.Gathered.{IsWithin};
 ghost use Rattle.cat_io.specs.Word.{AnswersLine, cut};
 ghost use Rattle.cat_model.specs.Settle.{try_settle};
 ghost use Rattle.cat_model.specs.Sound.{AreSmall, Sound};
 ghost use Rattle.cat_model.specs.Step.{next_taken};
-ghost use Rattle.cat_session.specs.Carried.{Carries, CarriesDeed, IsShort, Stays, order_taken};
+ghost use Rattle.cat_session.specs.Carried.{Carries, CarriesDeed, IsShort, Stays, after_whole, order_taken, put_back};
 ghost use Rattle.cat_session.specs.Replies.{IsLineRefusal};
 ghost use Rattle.cat_transcript.specs.Program.{program_settings, ruled_after, ruled_reply, session_start};
 ghost use Rattle.cat_table.specs.Table.{text_cmp};
@@ -25,6 +27,7 @@ use cat_core::catalogue::{Catalogue, Done, Saved, Stitched};
 use cat_core::extra::take_ref;
 use cat_desk::command::Command;
 use cat_desk::desk::Desk;
+use cat_desk::spare::{is_long_settle, says_whole, shared, taken};
 use cat_desk::timed::Timed;
 use cat_hold::layers::Layers;
 use cat_io::{FixedClock, Machine};
@@ -45,6 +48,17 @@ pub const LEASE: u64 = 60_000;
 
 /// The most stored input bytes.
 pub const INPUT_LIMIT: u64 = 67_108_864;
+
+/// What came of a line.
+#[derive(Drop)]
+pub struct Outcome {
+    /// The reply, with an LF at the end.
+    pub text: Vec<u8>,
+    /// Whether the line was carried out to its end, and isn't a settle with so many leases that it should not be carried out again.
+    pub repeatable: bool,
+    /// The references that a settle reached, where they were gathered.
+    pub reached: Option<Listing<Ref>>,
+}
 
 /// A catalogue under a rule for orphans with a clock that stands, and the orders and stitch orders that were handed out.
 #[derive(Drop)]
@@ -89,20 +103,22 @@ fn act<L: Layers>(
     Ok(out)
 }
 
-// Settles, and gives the reply as a line with what was reached. The room for the line is taken first.
-fn settle<L: Layers>(
-    alloc: Global,
-    desk: &mut Timed<L, FixedClock>,
-) -> Result<(Vec<u8>, Option<Listing<Ref>>), AllocError>
-    ensures ok { IfOk result (λ x. CarriesDeed L.rules desk.old.clock.moment Deed.Settle desk.old.catalogue desk.new.catalogue x.0.items) }
-    ensures reaches { IfOk result (λ x. IsWithin x.1 desk.old.catalogue.state desk.new.catalogue.state) }
+// Settles, and gives what came of it. The room for the reply is taken first.
+fn settle<L: Layers>(alloc: Global, desk: &mut Timed<L, FixedClock>) -> Result<Outcome, AllocError>
+    ensures ok { IfOk result (λ x. CarriesDeed L.rules desk.old.clock.moment Deed.Settle desk.old.catalogue desk.new.catalogue x.text.items) }
+    ensures whole { IfOk result (λ x. x.repeatable ≡ true → desk.new.catalogue.state ≡ done L.rules desk.old.catalogue.settings desk.old.clock.moment None Deed.Settle desk.old.catalogue.state) }
+    ensures reaches { IfOk result (λ x. IsWithin x.reached desk.old.catalogue.state desk.new.catalogue.state) }
     ensures err { OnErr result (Stays desk.old.catalogue desk.new.catalogue) }
     ensures clock { desk.new.clock.moment ≡ desk.old.clock.moment }
 {
-    let mut out = Vec::with_capacity(alloc, ROOM)?;
-    let (reply, gathered) = desk.settle_reaching(alloc);
-    push_reply(&mut out, &reply)?;
-    Ok((out, gathered))
+    let mut text = Vec::with_capacity(alloc, ROOM)?;
+    let (reply, reached) = desk.settle_reaching(alloc);
+    push_reply(&mut text, &reply)?;
+    Ok(Outcome {
+        text,
+        repeatable: says_whole(&reply) && !is_long_settle(&reply),
+        reached,
+    })
 }
 
 // The reference of the record that the next take leases.
@@ -206,16 +222,35 @@ impl<L: Layers> Session<L> {
         }
     }
 
-    /// A copy of what the catalogue holds, to which the session can be put back. The only error is want of memory.
-    pub fn saved(&self) -> Result<Saved<L>, AllocError>
-        ensures { IfOk result (λ saved. saved ≡ self.now.session.state) }
+    /// A copy of what the catalogue holds, to which the session can be put back: the spare copy, which is taken out, or a new one where there is none. The
+    /// only error is want of memory.
+    pub fn saved(&self, spare: &mut Option<Saved<L>>) -> Result<Saved<L>, AllocError>
+        requires { IsSpare spare.old self.now.session.state }
+        ensures saved { IfOk result (λ saved. saved ≡ self.now.session.state) }
+        ensures none { spare.new ≡ None }
     {
-        self.desk.catalogue().saved(self.alloc)
+        taken(self.alloc, self.desk.catalogue(), spare)
+    }
+
+    /// What was saved as a spare copy, all but its records shared with the catalogue, which holds the same records. None where memory lacks.
+    pub fn shared(&self, saved: Saved<L>) -> Option<Saved<L>>
+        requires { saved.records ≡ self.now.session.state.records }
+        ensures { IsSpare result self.now.session.state }
+    {
+        shared(self.alloc, self.desk.catalogue(), saved)
+    }
+
+    /// Exchanges what the catalogue holds with what was saved. No memory is taken.
+    pub fn exchange(&mut self, saved: &mut Saved<L>)
+        ensures session { self.new ≡ put_back self.old saved.old }
+        ensures saved { saved.new ≡ self.old.session.state }
+    {
+        self.desk.exchange(saved);
     }
 
     /// Puts the catalogue back to what it held when it was saved. No memory is taken.
     pub fn put_back(&mut self, saved: Saved<L>)
-        ensures { self.new ≡ record self.old { session = record self.old.session { state = saved } } }
+        ensures { self.new ≡ put_back self.old saved }
     {
         self.desk.put_back(saved);
     }
@@ -232,11 +267,11 @@ impl<L: Layers> Session<L> {
         self.desk.settle_within(self.alloc, most)
     }
 
-    /// Carries out the line `settle`, and gives the reply with the references that it reached, where they were gathered. The only error is want of memory: the
-    /// session is then as before.
-    pub fn settle_reaching(&mut self) -> Result<(Vec<u8>, Option<Listing<Ref>>), AllocError>
-        ensures ok { IfOk result (λ x. Carries L.rules asks.Settle self.old self.new x.0.items) }
-        ensures reaches { IfOk result (λ x. IsWithin x.1 self.old.session.state self.new.session.state) }
+    // Carries out the line `settle`. The only error is want of memory: the session is then as before.
+    fn settle_reaching(&mut self) -> Result<Outcome, AllocError>
+        ensures ok { IfOk result (λ x. Carries L.rules asks.Settle self.old self.new x.text.items) }
+        ensures whole { IfOk result (λ x. x.repeatable ≡ true → self.new ≡ after_whole L.rules asks.Settle self.old) }
+        ensures reaches { IfOk result (λ x. IsWithin x.reached self.old.session.state self.new.session.state) }
         ensures err { OnErr result (self.new ≡ self.old) }
     {
         settle(self.alloc, &mut self.desk)
@@ -332,6 +367,27 @@ impl<L: Layers> Session<L> {
             Line::Stitch(after) => self.stitch(after),
             Line::Place(ticket) => self.place(ticket),
             Line::Ask(ask) => self.ask(&ask),
+        }
+    }
+
+    /// Carries out a line as `carry_out` does, and gives what came of it.
+    pub fn carry_reaching(&mut self, line: Line) -> Result<Outcome, AllocError>
+        requires { IsReady line }
+        ensures ok { IfOk result (λ x. Carries L.rules line self.old self.new x.text.items) }
+        ensures whole { IfOk result (λ x. x.repeatable ≡ true → self.new ≡ after_whole L.rules line self.old) }
+        ensures reaches { IfOk result (λ x. IsWithin x.reached self.old.session.state self.new.session.state) }
+        ensures err { OnErr result (self.new ≡ self.old) }
+    {
+        match line {
+            Line::Settle => self.settle_reaching(),
+            line => {
+                let text = self.carry_out(line)?;
+                Ok(Outcome {
+                    text,
+                    repeatable: true,
+                    reached: None,
+                })
+            }
         }
     }
 

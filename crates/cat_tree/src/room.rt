@@ -1,6 +1,6 @@
 //! How long a tree's compact JSON text is, and the text where there is room for it. Nothing here takes
 //! memory.
-ghost use Rattle.std.specs.Prelude.{◌≡◌, ◌+◌, ◌<◌, ◌≤◌, ◌^◌, ◌++◌, min, length, decimal, vec_len, vec_capacity};
+ghost use Rattle.std.specs.Prelude.{◌≡◌, ◌+◌, ◌<◌, ◌≤◌, ◌^◌, ◌++◌, ◌∷◌, [], true, min, length, decimal, vec_len, vec_capacity};
 ghost use Rattle.std.specs.Char.{digit_char};
 ghost use Rattle.std.specs.Fmt.{signed_decimal};
 ghost use Rattle.json.specs.Print.{escape, escape_byte, quoted};
@@ -33,14 +33,46 @@ fn escape_size(byte: u8) -> u64
     }
 }
 
-fn quoted_size(text: &str) -> u64
-    ensures { result ≡ min (length (quoted text.now)) (2 ^ 62) }
+// Whether a byte stands for itself in a string.
+#[tactic(auto, unfolding(json::specs::Print::escape_byte))]
+fn is_plain_byte(byte: u8) -> bool
+    ensures { result ≡ true → escape_byte byte ≡ byte ∷ [] }
+{
+    !matches!(byte, b'"' | b'\\' | 0..=31)
+}
+
+// Whether each byte stands for itself in a string, as in most texts.
+fn is_plain(bytes: &[u8]) -> bool
+    ensures { result ≡ true → escape bytes.now ≡ bytes.now }
+{
+    for byte in bytes {
+        if !is_plain_byte(*byte) {
+            return false;
+        }
+    }
+    true
+}
+
+// The same sum, byte by byte.
+fn escaped_size(bytes: &[u8]) -> u64
+    ensures { result ≡ min (2 + length (escape bytes.now)) (2 ^ 62) }
 {
     let mut total: u64 = 2;
-    for byte in text.as_bytes() {
+    for byte in bytes {
         total = added(total, escape_size(*byte));
     }
     total
+}
+
+fn quoted_size(text: &str) -> u64
+    ensures { result ≡ min (length (quoted text.now)) (2 ^ 62) }
+{
+    let bytes = text.as_bytes();
+    if is_plain(bytes) {
+        added(2, (bytes.len() as u64).min(MOST_SIZE))
+    } else {
+        escaped_size(bytes)
+    }
 }
 
 fn number_size(z: i128) -> u64
@@ -142,6 +174,21 @@ fn put_escape(out: &mut Vec<u8>, byte: u8)
     }
 }
 
+// Appends what stands for the bytes in a string.
+fn put_escaped(out: &mut Vec<u8>, bytes: &[u8])
+    requires { vec_len out.old + length (escape bytes.now) ≤ vec_capacity out.old }
+    ensures items { out.new.items ≡ out.old.items ++ escape bytes.now }
+    ensures len { vec_len out.new ≡ vec_len out.old + length (escape bytes.now) }
+    ensures capacity { vec_capacity out.old ≤ vec_capacity out.new }
+{
+    if is_plain(bytes) {
+        return put(out, bytes);
+    }
+    for byte in bytes {
+        put_escape(out, *byte);
+    }
+}
+
 fn put_quoted(out: &mut Vec<u8>, text: &str)
     requires { vec_len out.old + length (quoted text.now) ≤ vec_capacity out.old }
     ensures items { out.new.items ≡ out.old.items ++ quoted text.now }
@@ -149,9 +196,7 @@ fn put_quoted(out: &mut Vec<u8>, text: &str)
     ensures capacity { vec_capacity out.old ≤ vec_capacity out.new }
 {
     put(out, b"\"");
-    for byte in text.as_bytes() {
-        put_escape(out, *byte);
-    }
+    put_escaped(out, text.as_bytes());
     put(out, b"\"");
 }
 

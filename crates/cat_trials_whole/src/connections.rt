@@ -1,4 +1,5 @@
 //! Two connections that are served at once, beside workers.
+use crate::tool::given;
 use cat_doors::{Accepted, Connection, Doors, Listened};
 use cat_io::{FixedClock, MemorySink, ReadAnswer, Sink, Source, WriteAnswer};
 use cat_keeper::keeper::{Committed, Keeper, Loaded, Place};
@@ -239,10 +240,7 @@ impl<'a> Doors for Porch<'a> {
 #[test]
 fn a_connection_hears_what_workers_make(rt: HostRuntime) -> Result<(), Fail> {
     let alloc = rt.alloc();
-    let mut words = Vec::new(alloc);
-    for word in WORDS.iter() {
-        words.push(String::from_str(alloc, word)?)?;
-    }
+    let words = given(alloc, &WORDS)?;
     let scene = Scene {
         came: AtomicU64::new(0),
         met: AtomicU64::new(0),

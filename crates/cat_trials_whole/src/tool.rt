@@ -133,8 +133,8 @@ const CASES: [(&[&str], Option<Command>); 52] = [
     (&[], None),
 ];
 
-// The words as what a program is given.
-fn given(alloc: Global, words: &[&str]) -> Result<Vec<String>, AllocError> {
+/// The words as what a program is given. The error is want of memory.
+pub fn given(alloc: Global, words: &[&str]) -> Result<Vec<String>, AllocError> {
     let mut texts = Vec::new(alloc);
     for word in words.iter() {
         texts.push(String::from_str(alloc, word)?)?;

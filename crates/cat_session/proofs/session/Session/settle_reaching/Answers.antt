@@ -10,5 +10,5 @@ pub returns-clause-ok : goal.returns-clause-ok
 returns-clause-ok g c =
     let d = c.self.inside.desk in
     ok_then c.settle.result _ _ c.settle.ensures.ok
-    (λ x h. carried g.L.Layers.rules c.self.inside.orphans d.catalogue c.settle.new.desk.catalogue c.self.invariant d.clock.moment c.settle.new.desk.clock.moment c.settle.ensures.clock c.self.inside.orders.items c.self.inside.stitches c.args.self.now c.self.view_is x.0.items asks.Settle asks.Settle Settle refl
+    (λ x h. carried g.L.Layers.rules c.self.inside.orphans d.catalogue c.settle.new.desk.catalogue c.self.invariant d.clock.moment c.settle.new.desk.clock.moment c.settle.ensures.clock c.self.inside.orders.items c.self.inside.stitches c.args.self.now c.self.view_is x.text.items asks.Settle asks.Settle Settle refl
     (settles g.L.Layers.rules (program_settings c.self.inside.orphans) d.clock.moment c.self.inside.orders.items c.self.inside.stitches d.catalogue.state) h)
