@@ -33,8 +33,9 @@ const MOST: u64 = 1 << 59;
 
 const LOW_BITS: u64 = 0xffff_ffff;
 
-/// So often a caller looks for its turn before it parks.
-const LOOKS: u32 = 2_000;
+/// So often a caller looks for its turn before it parks, which takes some ten microseconds, as a turn does. Callers that look for longer hold the processors
+/// that those need which are woken for their turn.
+const LOOKS: u32 = 200;
 
 /// There was no memory.
 #[derive(Clone, Copy, Debug, Error)]
