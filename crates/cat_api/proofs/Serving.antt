@@ -39,7 +39,7 @@ use Rattle.cat_requests.specs.Answers.{reply_to}
 use Rattle.cat_requests.specs.Requests.{request_of}
 use Rattle.cat_requests.specs.declared.refusal.Refusal.{Refusal}
 use Rattle.cat_requests.specs.declared.request.Request.{Request}
-use Rattle.cat_wire.specs.Worded.{Word, plain, cut, untold, unkept, cut_unkept, IsAnswered, AnswersMessage, LacksMemory, IsWorded}
+use Rattle.cat_connection.specs.Worded.{Word, plain, cut, untold, unkept, cut_unkept, IsAnswered, AnswersMessage, LacksMemory, IsWorded}
 
 -- what the desk says to a question is the answer to it
 asked_is : (answer : Result (List ℕ) AskFault) (said : Asked) (text : List ℕ) → IsAnswer answer said text → said ≢ NoMemory → asked_answer said text ≡ ask_answer answer

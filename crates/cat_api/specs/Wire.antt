@@ -19,7 +19,7 @@ use Rattle.cat_requests.specs.declared.answer.Answer.{Answer}
 use Rattle.cat_requests.specs.declared.answer.Answer.TheVariants.{Refused}
 use Rattle.cat_requests.specs.declared.refusal.Refusal.{Refusal}
 use Rattle.cat_requests.specs.declared.request.Request.{Request}
-use Rattle.cat_wire.specs.Worded.{Word, plain, memory, cut, untold, unkept, cut_unkept, After, Reply}
+use Rattle.cat_connection.specs.Worded.{Word, plain, memory, cut, untold, unkept, cut_unkept, After, Reply}
 
 -- a catalogue and its feed
 pub record Wired : Type 0 where

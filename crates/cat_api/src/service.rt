@@ -4,10 +4,10 @@ ghost use Rattle.cat_api.specs.Answering.{AnswersBytes, Lacks};
 ghost use Rattle.cat_requests.specs.Requests.{request_of};
 
 use crate::answer::answer;
+use cat_connection::Machine;
 use cat_desk::feed_desk::FeedDesk;
 use cat_http::message::Message;
 use cat_http::reply::write_reply;
-use cat_wire::Machine;
 use std::alloc::{AllocError, Global};
 use std::marker::PhantomData;
 

@@ -9,9 +9,9 @@ use Rattle.std.specs.Cmp.{nat_cmp_total}
 use Rattle.std.specs.FinMap.{nat_cmp-IsAntisymmetric}
 use Rattle.std.specs.FinMap.Entries.{find-put, is_some-find}
 use Rattle.std.proofs.lemmas.Bool.Decides.{nat_tests}
-use Rattle.cat_table.specs.Table.{find, keys, over, put, same_text}
-use Rattle.cat_table.proofs.Orders.{has-filter}
-use Rattle.cat_table.proofs.Tables.{and_first, and_second, find-over, same_self}
+use Rattle.cat_collections.specs.Table.{find, keys, over, put, same_text}
+use Rattle.cat_collections.proofs.Orders.{has-filter}
+use Rattle.cat_collections.proofs.Tables.{and_first, and_second, find-over, same_self}
 use Rattle.cat_types.specs.declared.input.Offered.{Offered}
 use Rattle.cat_model.specs.Catalogue.{Ref}
 use Rattle.cat_model.specs.Rows.{Rows, given, is_from, is_named, named, row_at, same_origin}

@@ -9,9 +9,9 @@ use Rattle.std.specs.FinMap.{nat_cmp-IsAntisymmetric}
 use Rattle.std.specs.FinMap.Entries.{is_sorted, same_entries}
 use Rattle.std.proofs.lemmas.List.{take_more}
 use Rattle.std.proofs.lemmas.List.Folds.{list_any-append}
-use Rattle.cat_table.specs.Table.{keys, over, same_text}
-use Rattle.cat_table.proofs.Tables.{text_total, text_antisymmetric, find-over, found_key, is_sorted-tabulate, same_tabulated}
-use Rattle.cat_table.proofs.Orders.{has-filter}
+use Rattle.cat_collections.specs.Table.{keys, over, same_text}
+use Rattle.cat_collections.proofs.Tables.{text_total, text_antisymmetric, find-over, found_key, is_sorted-tabulate, same_tabulated}
+use Rattle.cat_collections.proofs.Orders.{has-filter}
 use Rattle.cat_model.specs.Catalogue.{Ref, Holders, held, may_offer, standing, with_origin_held}
 use Rattle.cat_model.specs.Rows.{Rows, given, is_from, row_at, same_origin}
 use Rattle.cat_model.specs.declared.types.Origin.{Origin}

@@ -10,8 +10,8 @@ use Rattle.std.specs.Ordering.{eq_by_cmp}
 use Rattle.std.specs.Cmp.{IsTotalOrder, both_ways}
 use Rattle.std.specs.FinMap.{IsAntisymmetric}
 use Rattle.std.proofs.lemmas.List.Folds.{list_any-append}
-use Rattle.cat_table.specs.Table.{same_text}
-use Rattle.cat_table.proofs.Tables.{text_total, text_antisymmetric}
+use Rattle.cat_collections.specs.Table.{same_text}
+use Rattle.cat_collections.proofs.Tables.{text_total, text_antisymmetric}
 use Rattle.cat_model.proofs.Members.{flat_map_from, flat_map_in}
 use Rattle.cat_model.specs.Catalogue.{Ref, Rows, Holders}
 use Rattle.cat_model.specs.Mend.{below, children}

@@ -7,9 +7,9 @@ use Rattle.std.specs.List.{filter, list_any}
 use Rattle.std.specs.Cmp.{both_ways, nat_cmp_total}
 use Rattle.std.specs.FinMap.{nat_cmp-IsAntisymmetric}
 use Rattle.std.proofs.lemmas.Bool.Decides.{nat_tests}
-use Rattle.cat_table.specs.Table.{get, keys, over, same_text}
-use Rattle.cat_table.proofs.Orders.{has-filter}
-use Rattle.cat_table.proofs.Tables.{and_first, and_second, find-over, found_key, text_antisymmetric, text_total}
+use Rattle.cat_collections.specs.Table.{get, keys, over, same_text}
+use Rattle.cat_collections.proofs.Orders.{has-filter}
+use Rattle.cat_collections.proofs.Tables.{and_first, and_second, find-over, found_key, text_antisymmetric, text_total}
 use Rattle.cat_types.specs.declared.input.Offered.{Offered}
 use Rattle.cat_model.specs.Catalogue.{Holders, Ref}
 use Rattle.cat_model.specs.Rows.{Rows, given, is_from, row_at, same_origin}

@@ -10,9 +10,9 @@ use Rattle.std.specs.FinMap.{IsAntisymmetric}
 use Rattle.std.specs.FinMap.Entries.{find, is_sorted, is_sorted-where_key, find-where_key, same_entries}
 use Rattle.std.proofs.lemmas.List.{take_more}
 use Rattle.std.proofs.lemmas.List.Folds.{list_any-append}
-use Rattle.cat_table.specs.Table.{keys}
-use Rattle.cat_table.specs.Rows.{without}
-use Rattle.cat_table.proofs.Tables.{same_is, same_self, find-over, is_sorted-tabulate}
+use Rattle.cat_collections.specs.Table.{keys}
+use Rattle.cat_collections.specs.Rows.{without}
+use Rattle.cat_collections.proofs.Tables.{same_is, same_self, find-over, is_sorted-tabulate}
 use Rattle.cat_claims.specs.Touched.{outside}
 
 pub to_T : (b : Bool) → b ≡ true → T b

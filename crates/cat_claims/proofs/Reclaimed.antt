@@ -3,7 +3,7 @@ use Rattle.std.proofs.Common.{◌≡◌, true, List, refl, sym, ap, subst, ◌�
 use Rattle.std.specs.List.{filter, list_any}
 use Rattle.std.specs.List.Sorted.{IsStrictlySortedBy}
 use Rattle.std.specs.FinMap.Entries.{is_sorted}
-use Rattle.cat_table.specs.Table.{Map, keys, same_text, text_cmp}
+use Rattle.cat_collections.specs.Table.{Map, keys, same_text, text_cmp}
 use Rattle.cat_model.specs.Catalogue.{Ref, Holders, rehold, standing}
 use Rattle.cat_model.specs.Mend.{left_by}
 use Rattle.cat_claims.specs.Change.{IsMendable}

@@ -5,8 +5,8 @@ use Rattle.std.specs.List.{list_any, filter, flat_map}
 use Rattle.std.specs.Ordering.{eq_by_cmp}
 use Rattle.std.specs.Cmp.{nat_cmp_total}
 use Rattle.std.specs.FinMap.{nat_cmp-IsAntisymmetric}
-use Rattle.cat_table.specs.Table.{get, keys, over, same_text, text_cmp}
-use Rattle.cat_table.proofs.Tables.{text_total, text_antisymmetric}
+use Rattle.cat_collections.specs.Table.{get, keys, over, same_text, text_cmp}
+use Rattle.cat_collections.proofs.Tables.{text_total, text_antisymmetric}
 use Rattle.cat_model.specs.Catalogue.{Ref, Rows, Holders, rehold, claim}
 use Rattle.cat_model.specs.Rows.{Arrivals, given, named}
 use Rattle.cat_model.specs.Mend.{below, candidates, released, cut_off}

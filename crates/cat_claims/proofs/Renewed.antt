@@ -9,11 +9,11 @@ use Rattle.std.specs.Cmp.{both_ways, nat_cmp_total}
 use Rattle.std.specs.FinMap.{nat_cmp-IsAntisymmetric}
 use Rattle.std.specs.FinMap.Entries.{find-put, find-where_key, is_sorted, is_sorted-put, is_sorted-where_key, same_entries}
 use Rattle.std.proofs.lemmas.List.{drop_all, drop_more}
-use Rattle.cat_table.specs.Rows.{without}
-use Rattle.cat_table.specs.Table.{keys, over, put, same_text}
-use Rattle.cat_table.proofs.Orders.{has-filter}
-use Rattle.cat_table.proofs.Placed.{from_T, to_T}
-use Rattle.cat_table.proofs.Tables.{find-over, found_key, is_sorted-tabulate, same_is, same_self, same_tabulated, text_antisymmetric, text_total}
+use Rattle.cat_collections.specs.Rows.{without}
+use Rattle.cat_collections.specs.Table.{keys, over, put, same_text}
+use Rattle.cat_collections.proofs.Orders.{has-filter}
+use Rattle.cat_collections.proofs.Placed.{from_T, to_T}
+use Rattle.cat_collections.proofs.Tables.{find-over, found_key, is_sorted-tabulate, same_is, same_self, same_tabulated, text_antisymmetric, text_total}
 use Rattle.cat_types.specs.declared.input.Offered.{Offered}
 use Rattle.cat_model.specs.Catalogue.{Ref}
 use Rattle.cat_model.specs.Rows.{IsRowAt, Rows, is_named, named, row_at, same_origin}

@@ -7,9 +7,9 @@ use Rattle.std.specs.List.Sorted.{IsStrictlySortedBy}
 use Rattle.std.specs.FinMap.Entries.{find-put, is_some-find, is_sorted}
 use Rattle.std.proofs.lemmas.Bool.Decides.{nat_tests}
 use Rattle.std.proofs.lemmas.List.Kept.{IsStrictlySortedBy-filter}
-use Rattle.cat_table.specs.Table.{Map, find, get, keys, put, same_text, text_cmp}
-use Rattle.cat_table.proofs.Tables.{text_total, text_antisymmetric, or_true}
-use Rattle.cat_table.proofs.Orders.{has-filter, keys_rise}
+use Rattle.cat_collections.specs.Table.{Map, find, get, keys, put, same_text, text_cmp}
+use Rattle.cat_collections.proofs.Tables.{text_total, text_antisymmetric, or_true}
+use Rattle.cat_collections.proofs.Orders.{has-filter, keys_rise}
 use Rattle.cat_model.proofs.Members.{any_either, any_left, any_right}
 use Rattle.cat_model.specs.Catalogue.{Ref, Holders, held}
 use Rattle.cat_claims.specs.Claimed.{are_others}

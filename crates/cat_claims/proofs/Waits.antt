@@ -8,9 +8,9 @@ use Rattle.std.specs.Cmp.{nat_cmp_total}
 use Rattle.std.specs.FinMap.{nat_cmp-IsAntisymmetric}
 use Rattle.std.proofs.lemmas.List.{take_more}
 use Rattle.std.specs.FinMap.Entries.{find-put, is_some-find, is_sorted}
-use Rattle.cat_table.specs.Table.{find, get, keys, put, text_cmp, first}
-use Rattle.cat_table.specs.Rows.{without}
-use Rattle.cat_table.proofs.Tables.{text_total, text_antisymmetric, same_is, same_self, or_true, or_false_first, find-put_same, find-put_other, first_some}
+use Rattle.cat_collections.specs.Table.{find, get, keys, put, text_cmp, first}
+use Rattle.cat_collections.specs.Rows.{without}
+use Rattle.cat_collections.proofs.Tables.{text_total, text_antisymmetric, same_is, same_self, or_true, or_false_first, find-put_same, find-put_other, first_some}
 use Rattle.cat_model.specs.Catalogue.{Ref, Rows, Holders, row_at, may_offer, claims, hold, claim}
 use Rattle.cat_model.specs.declared.types.Row.{Row}
 use Rattle.cat_model.specs.declared.types.Origin.TheVariants.{Entity}

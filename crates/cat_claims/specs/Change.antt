@@ -4,7 +4,7 @@ use Rattle.std.specs.declared.option.Option.{Option}
 use Rattle.std.specs.declared.option.Option.TheVariants.{Some}
 use Rattle.std.specs.List.{filter, list_any}
 use Rattle.std.specs.Ordering.{eq_by_cmp, nat_cmp}
-use Rattle.cat_table.specs.Table.{keys, same_text}
+use Rattle.cat_collections.specs.Table.{keys, same_text}
 use Rattle.cat_types.specs.declared.input.Offered.{Offered}
 use Rattle.cat_model.specs.Catalogue.{Holders, Ref, Rows, row_at}
 use Rattle.cat_model.specs.Rows.{given, same_origin}

@@ -4,7 +4,7 @@ use Rattle.std.specs.declared.option.Option.{Option}
 use Rattle.std.specs.declared.option.Option.TheVariants.{None, Some}
 use Rattle.std.specs.List.{filter, list_any}
 use Rattle.std.specs.List.Sorted.{IsStrictlySortedBy}
-use Rattle.cat_table.specs.Table.{get, keys, same_text, text_cmp}
+use Rattle.cat_collections.specs.Table.{get, keys, same_text, text_cmp}
 use Rattle.cat_model.specs.declared.types.Numbered.{Numbered}
 use Rattle.cat_model.specs.Catalogue.{Ref, Holders, held, rehold, standing}
 use Rattle.cat_claims.specs.declared.types.Claimed.{Claimed}

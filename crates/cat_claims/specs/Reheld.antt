@@ -2,7 +2,7 @@
 use Rattle.std.specs.Prelude.{◌≡◌, not, ◌&&◌}
 use Rattle.std.specs.List.{list_any}
 use Rattle.std.specs.List.Sorted.{IsStrictlySortedBy}
-use Rattle.cat_table.specs.Table.{get, same_text, text_cmp}
+use Rattle.cat_collections.specs.Table.{get, same_text, text_cmp}
 use Rattle.cat_model.specs.Catalogue.{Ref, Holders, Rows, held, rehold}
 use Rattle.cat_claims.specs.Claimed.{are_others}
 use Rattle.cat_claims.specs.declared.claims.Reheld.{Reheld}

@@ -3,7 +3,7 @@ use Rattle.std.specs.Prelude.{◌≡◌, ℕ, ◌<◌, Bool, false, cond, ◌&&�
 use Rattle.std.specs.declared.option.Option.{Option}
 use Rattle.std.specs.declared.option.Option.TheVariants.{None, Some}
 use Rattle.std.specs.Ordering.{nat_cmp}
-use Rattle.cat_table.specs.Table.{get, over}
+use Rattle.cat_collections.specs.Table.{get, over}
 use Rattle.cat_types.specs.declared.input.Offered.{Offered}
 use Rattle.cat_model.specs.Catalogue.{Holders, Ref, Rows, row_at}
 use Rattle.cat_model.specs.Step.{is_offer, row_after}

@@ -4,7 +4,7 @@ use Rattle.std.specs.declared.cmp.Ordering.{Ordering}
 use Rattle.std.specs.declared.option.Option.TheVariants.{None, Some}
 use Rattle.std.specs.List.{list_any}
 use Rattle.std.specs.Ordering.{eq_by_cmp}
-use Rattle.cat_table.specs.Table.{get, over, same_text}
+use Rattle.cat_collections.specs.Table.{get, over, same_text}
 use Rattle.cat_model.specs.Catalogue.{Holders, Ref, held}
 use Rattle.cat_claims.specs.Claimed.{are_others}
 

@@ -3,8 +3,8 @@ use Rattle.std.specs.Prelude.{◌≡◌, ℕ, ◌-◌, ◌<◌, Bool, true, ◌�
 use Rattle.std.specs.declared.option.Option.{Option}
 use Rattle.std.specs.declared.option.Option.TheVariants.{None, Some}
 use Rattle.std.specs.Ordering.{nat_cmp}
-use Rattle.cat_table.specs.Table.{first, keys}
-use Rattle.cat_table.specs.Rows.{without}
+use Rattle.cat_collections.specs.Table.{first, keys}
+use Rattle.cat_collections.specs.Rows.{without}
 use Rattle.cat_model.specs.Catalogue.{Holders, Ref, Rows, claim, claims, row_at}
 use Rattle.cat_model.specs.Rows.{Arrivals}
 use Rattle.cat_claims.specs.Change.{among}

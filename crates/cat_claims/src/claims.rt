@@ -1,7 +1,7 @@
 //! Who holds what once the rows of one origin were replaced.
 ghost use Rattle.std.specs.Prelude.{◌≡◌, ◌++◌, ◌∷◌, [], IfOk};
 ghost use Rattle.std.specs.List.{filter};
-ghost use Rattle.cat_table.specs.Table.{keys};
+ghost use Rattle.cat_collections.specs.Table.{keys};
 ghost use Rattle.cat_claims.specs.Change.{IsMendable};
 ghost use Rattle.cat_claims.specs.Claimed.{IsClaimed};
 ghost use Rattle.cat_claims.specs.Reheld.{IsReheld};
@@ -10,8 +10,8 @@ ghost use Rattle.cat_claims.specs.Touched.{is_fresh, is_leaving, is_moved};
 use crate::dropped::drop_all_given;
 use crate::mend::mend;
 use crate::types::{Claimed, Replaced};
-use cat_table::listing::Listing;
-use cat_table::map::Map;
+use cat_collections::listing::Listing;
+use cat_collections::map::Map;
 use cat_types::reference::Ref;
 use std::alloc::{AllocError, Global};
 

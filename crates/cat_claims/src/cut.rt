@@ -4,9 +4,9 @@ ghost use Rattle.std.specs.List.{cons_option, filter_map, flat_map};
 ghost use Rattle.cat_model.specs.Rows.{row_at};
 ghost use Rattle.cat_model.specs.Mend.{below, children, held_by};
 
+use cat_collections::listing::Copied;
+use cat_collections::map::Map;
 use cat_model::rows::IndexedRows;
-use cat_table::listing::Copied;
-use cat_table::map::Map;
 use cat_types::reference::Ref;
 use std::alloc::{AllocError, Global};
 

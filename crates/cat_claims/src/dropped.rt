@@ -1,7 +1,7 @@
 //! Rows whose origin isn't held any more go.
 ghost use Rattle.std.specs.Prelude.{◌≡◌, ◌∷◌, [], IfOk};
 ghost use Rattle.std.specs.Ordering.{nat_cmp};
-ghost use Rattle.cat_table.specs.Rows.{without};
+ghost use Rattle.cat_collections.specs.Rows.{without};
 ghost use Rattle.cat_model.specs.Mend.{left_by};
 ghost use Rattle.cat_claims.specs.Touched.{outside};
 

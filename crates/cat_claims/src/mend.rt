@@ -1,7 +1,7 @@
 //! The holders after a change of rows, and the references that it touches.
 ghost use Rattle.std.specs.Prelude.{◌≡◌, ◌++◌, IfOk};
 ghost use Rattle.std.specs.List.{flat_map};
-ghost use Rattle.cat_table.specs.Table.{keys};
+ghost use Rattle.cat_collections.specs.Table.{keys};
 ghost use Rattle.cat_model.specs.Catalogue.{rehold};
 ghost use Rattle.cat_model.specs.Rows.{named};
 ghost use Rattle.cat_model.specs.Mend.{released};
@@ -11,9 +11,9 @@ ghost use Rattle.cat_claims.specs.Touched.{AreKeptBut, HasAll};
 use crate::cut::cut_off;
 use crate::types::Replaced;
 use crate::waiting::{call, claim_waiting};
+use cat_collections::listing::{Copied, Listing};
+use cat_collections::map::Map;
 use cat_model::rows::IndexedRows;
-use cat_table::listing::{Copied, Listing};
-use cat_table::map::Map;
 use cat_types::reference::Ref;
 use std::alloc::{AllocError, Global};
 

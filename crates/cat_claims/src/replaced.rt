@@ -2,7 +2,7 @@
 ghost use Rattle.std.specs.Prelude.{◌≡◌, ◌+◌, ◌<◌, ◌≤◌, ◌^◌, ℕ, IfOk, None, nat_le, option_map, true};
 ghost use Rattle.std.specs.List.{filter, list_any};
 ghost use Rattle.std.specs.Ordering.{eq_by_cmp, nat_cmp};
-ghost use Rattle.cat_table.specs.Table.{get, keys, over, same_text};
+ghost use Rattle.cat_collections.specs.Table.{get, keys, over, same_text};
 ghost use Rattle.cat_model.specs.Mend.{IsReady, lost};
 ghost use Rattle.cat_model.specs.Catalogue.{Ref as Name, row_at};
 ghost use Rattle.cat_model.specs.Rows.{given, is_from, same_origin};
@@ -11,22 +11,22 @@ ghost use Rattle.cat_claims.specs.Change.{AreAmong, IsChangedAmong, among};
 ghost use Rattle.cat_claims.specs.Renewed.{AreBelow, is_gone, loses, renewed};
 
 use crate::types::Replaced;
+use cat_collections::key::Key;
+use cat_collections::listing::{Copied, Listing};
+use cat_collections::map::Map;
 use cat_model::rows::IndexedRows;
 use cat_model::types::{Numbered, Origin, Row, State};
-use cat_table::key::Key;
-use cat_table::listing::{Copied, Listing};
-use cat_table::map::Map;
+use cat_state_parts::items::OfferedItems;
 use cat_types::entries::Entries;
 use cat_types::input::Offered;
 use cat_types::reference::Ref;
-use cat_values::items::OfferedItems;
 use std::alloc::{AllocError, Global};
 use std::cmp::Ordering;
 
 /// What an origin offers, by reference.
 pub trait Offering {
     ghost use Rattle.std.specs.Prelude.{Option as Maybe};
-    ghost use Rattle.cat_table.specs.Table.{Text};
+    ghost use Rattle.cat_collections.specs.Table.{Text};
     ghost use Rattle.cat_types.specs.declared.input.Offered.{Offered as Offer};
 
     ghost offers: { Self → Text → Maybe Offer };

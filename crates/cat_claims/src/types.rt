@@ -1,8 +1,8 @@
 //! What a replacement of the rows of one origin comes to.
+use cat_collections::listing::Listing;
+use cat_collections::map::Map;
 use cat_model::rows::IndexedRows;
 use cat_model::types::Numbered;
-use cat_table::listing::Listing;
-use cat_table::map::Map;
 use cat_types::reference::Ref;
 
 /// The rows once those of one origin were replaced, with the next arrival; the references that have lost the row that held them; and,

@@ -1,7 +1,7 @@
 //! Claiming among the rows that wait.
 ghost use Rattle.std.specs.Prelude.{◌≡◌, ◌++◌, [], IfOk, IfSome, Some, length};
 ghost use Rattle.std.specs.List.{cons_option};
-ghost use Rattle.cat_table.specs.Table.{keys};
+ghost use Rattle.cat_collections.specs.Table.{keys};
 ghost use Rattle.cat_model.specs.Catalogue.{claim, claims, held, hold, may_offer};
 ghost use Rattle.cat_model.specs.Rows.{given, named, row_at};
 ghost use Rattle.cat_model.specs.declared.types.Origin.TheVariants.{Entity};
@@ -9,10 +9,10 @@ ghost use Rattle.cat_claims.specs.Change.{AreAmong};
 ghost use Rattle.cat_claims.specs.Touched.{AreKeptBut};
 ghost use Rattle.cat_claims.specs.Waiting.{AllWait, HasClaimed, IsFound, IsPopped};
 
+use cat_collections::listing::{Copied, Listing};
+use cat_collections::map::Map;
 use cat_model::rows::IndexedRows;
 use cat_model::types::{Origin, Row};
-use cat_table::listing::{Copied, Listing};
-use cat_table::map::Map;
 use cat_types::reference::Ref;
 use std::alloc::{AllocError, Global};
 

@@ -6,8 +6,8 @@ use Rattle.std.specs.Ordering.{is_gt, is_lt}
 use Rattle.std.specs.Cmp.{IsTotalOrder}
 use Rattle.std.specs.FinMap.{IsAntisymmetric}
 use Rattle.std.specs.FinMap.Entries.{below_all, by_order, is_sorted}
-use Rattle.cat_table.specs.Table.{Text, first, keys, put, put_some, tabulate, text_cmp}
-use Rattle.cat_table.proofs.Tables.{text_antisymmetric, text_total, and_first, and_second, is_sorted-tabulate}
+use Rattle.cat_collections.specs.Table.{Text, first, keys, put, put_some, tabulate, text_cmp}
+use Rattle.cat_collections.proofs.Tables.{text_antisymmetric, text_total, and_first, and_second, is_sorted-tabulate}
 use Rattle.cat_model.specs.declared.types.State.{State}
 use Rattle.cat_model.specs.Catalogue.{known_refs}
 use Rattle.cat_core.specs.Least.{least, lesser, lesser_of, nearer}

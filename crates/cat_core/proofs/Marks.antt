@@ -6,7 +6,7 @@ use Rattle.std.specs.declared.option.Option.TheVariants.{Some}
 use Rattle.cat_model.specs.Catalogue.{Ref}
 use Rattle.cat_model.specs.Reply.{mark_above}
 use Rattle.cat_model.specs.Settle.{insert_mark, marks_in_order}
-use Rattle.cat_values.specs.Marks.{least_above, lesser_ticket}
+use Rattle.cat_state_parts.specs.Marks.{least_above, lesser_ticket}
 
 module _ (after : ℕ) where
   above_more : (a b : ℕ) → nat_le a b ≡ true → nat_lt after a ≡ true → nat_lt after b ≡ true

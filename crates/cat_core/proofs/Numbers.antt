@@ -6,8 +6,8 @@ use Rattle.std.specs.declared.option.Option.TheVariants.{None, Some}
 use Rattle.std.specs.Option.{option_or}
 use Rattle.std.specs.Ordering.{eq_by_cmp}
 use Rattle.std.specs.List.{list_any}
-use Rattle.cat_table.specs.Table.{Text, find, get, keys, tabulate, text_cmp}
-use Rattle.cat_table.proofs.Tables.{find-tabulate, first_none, first_some, found_key, list_any-append, text_antisymmetric, text_total}
+use Rattle.cat_collections.specs.Table.{Text, find, get, keys, tabulate, text_cmp}
+use Rattle.cat_collections.proofs.Tables.{find-tabulate, first_none, first_some, found_key, list_any-append, text_antisymmetric, text_total}
 use Rattle.cat_model.specs.Catalogue.{Rules, known_refs}
 use Rattle.cat_model.specs.Sound.{number_in}
 use Rattle.cat_model.specs.Step.{has_number, ref_at}

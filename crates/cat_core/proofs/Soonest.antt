@@ -4,8 +4,8 @@ use Rattle.std.specs.declared.option.Option.{Option}
 use Rattle.std.specs.declared.option.Option.TheVariants.{None, Some}
 use Rattle.std.specs.FinMap.Entries.{is_sorted}
 use Rattle.std.specs.List.{filter}
-use Rattle.cat_table.specs.Table.{Map, get, keys, text_cmp}
-use Rattle.cat_table.proofs.Tables.{text_antisymmetric, text_total}
+use Rattle.cat_collections.specs.Table.{Map, get, keys, text_cmp}
+use Rattle.cat_collections.proofs.Tables.{text_antisymmetric, text_total}
 use Rattle.cat_model.specs.Catalogue.{Ref}
 use Rattle.cat_model.specs.Dues.{sooner, soonest}
 use Rattle.cat_model.specs.Step.{due_at, earlier, earliest, may_take, next_taken}

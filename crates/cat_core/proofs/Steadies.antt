@@ -5,10 +5,10 @@ use Rattle.std.specs.declared.option.Option.TheVariants.{None, Some}
 use Rattle.std.specs.declared.result.Result.{Result}
 use Rattle.std.specs.declared.result.Result.TheVariants.{Ok}
 use Rattle.std.specs.Option.{option_and_then}
-use Rattle.cat_table.specs.Table.{get, put, same_text, text_cmp}
-use Rattle.cat_table.proofs.Tables.{find-put_other, find-put_same, same_is, text_antisymmetric, text_total}
+use Rattle.cat_collections.specs.Table.{get, put, same_text, text_cmp}
+use Rattle.cat_collections.proofs.Tables.{find-put_other, find-put_same, same_is, text_antisymmetric, text_total}
 use Rattle.cat_links.specs.Links.{Emitted}
-use Rattle.cat_hold.specs.Linked.{AreLinked}
+use Rattle.cat_plan.specs.Linked.{AreLinked}
 use Rattle.cat_model.specs.declared.types.Fault.{Fault}
 use Rattle.cat_model.specs.declared.types.Order.{Order}
 use Rattle.cat_model.specs.declared.types.Record.{Record}

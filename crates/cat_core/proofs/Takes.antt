@@ -3,8 +3,8 @@ use Rattle.std.proofs.Common.{◌≡◌, ℕ, ◌+◌, true, false, ◌&&◌, is
 use Rattle.std.specs.declared.option.Option.{Option}
 use Rattle.std.specs.declared.option.Option.TheVariants.{None, Some}
 use Rattle.std.specs.Option.{option_and_then}
-use Rattle.cat_table.specs.Table.{Text, get}
-use Rattle.cat_table.proofs.Tables.{find-put_same, first_some, text_antisymmetric, text_total}
+use Rattle.cat_collections.specs.Table.{Text, get}
+use Rattle.cat_collections.proofs.Tables.{find-put_same, first_some, text_antisymmetric, text_total}
 use Rattle.cat_model.specs.declared.types.Fault.TheVariants.{NotFound}
 use Rattle.cat_model.specs.declared.types.Lease.{Lease}
 use Rattle.cat_model.specs.declared.types.Orphan.{Orphan}

@@ -8,8 +8,8 @@ use Rattle.std.specs.Ordering.{is_gt, is_lt, nat_cmp, ordering_reverse, ordering
 use Rattle.std.specs.Cmp.{IsTotalOrder, nat_cmp_total, on_total, then_total, tied_itself}
 use Rattle.std.specs.FinMap.{IsAntisymmetric, nat_cmp-IsAntisymmetric}
 use Rattle.std.specs.FinMap.Entries.{below_all, by_order, is_sorted}
-use Rattle.cat_table.specs.Table.{first, keys, put, put_some, tabulate, text_cmp}
-use Rattle.cat_table.proofs.Tables.{text_antisymmetric, text_total, and_first, and_second, is_sorted-tabulate}
+use Rattle.cat_collections.specs.Table.{first, keys, put, put_some, tabulate, text_cmp}
+use Rattle.cat_collections.proofs.Tables.{text_antisymmetric, text_total, and_first, and_second, is_sorted-tabulate}
 use Rattle.cat_model.specs.declared.types.Row.{Row}
 use Rattle.cat_model.specs.declared.types.State.{State}
 use Rattle.cat_model.specs.Reply.{RowPlace, place_cmp, waiting}

@@ -14,7 +14,7 @@ use Rattle.cat_model.specs.declared.types.Progress.{Progress}
 use Rattle.cat_model.specs.declared.types.Counts.{Counts}
 use Rattle.cat_model.specs.Catalogue.{Ref, Rules, Work, work}
 use Rattle.cat_model.specs.Reply.{counts}
-use Rattle.cat_table.specs.Table.{get}
+use Rattle.cat_collections.specs.Table.{get}
 use Rattle.cat_model.specs.declared.types.Order.{Order}
 use Rattle.cat_model.specs.declared.types.Record.{Record}
 use Rattle.cat_model.specs.Settle.{try_settle}

@@ -3,7 +3,7 @@ use Rattle.std.specs.Prelude.{◌≡◌, Bool, true, cond, T, List, [], ◌∷�
 use Rattle.std.specs.declared.option.Option.{Option}
 use Rattle.std.specs.declared.option.Option.TheVariants.{None, Some}
 use Rattle.std.specs.FinMap.Entries.{is_sorted}
-use Rattle.cat_table.specs.Table.{get, text_cmp}
+use Rattle.cat_collections.specs.Table.{get, text_cmp}
 use Rattle.cat_model.specs.Catalogue.{Ref}
 use Rattle.cat_model.specs.Sound.{AreNumbers}
 use Rattle.cat_model.specs.declared.types.State.{State}

@@ -2,7 +2,7 @@
 ghost use Rattle.std.specs.Prelude.{◌≡◌, ℕ, ◌<◌, ◌≤◌, ◌-◌, ◌^◌, IfOk, IfErr, Option, IsTrue, ◌↔◌, is_ok, option_map, slice_get};
 ghost use Rattle.std.specs.declared.option.Option.TheVariants.{None, Some};
 ghost use Rattle.std.specs.FinMap.Entries.{is_sorted};
-ghost use Rattle.cat_table.specs.Table.{get, text_cmp};
+ghost use Rattle.cat_collections.specs.Table.{get, text_cmp};
 ghost use Rattle.cat_model.specs.Catalogue.{holding};
 ghost use Rattle.cat_model.specs.Fresh.{IsFresh};
 ghost use Rattle.cat_model.specs.Given.{given};
@@ -11,7 +11,7 @@ ghost use Rattle.cat_model.specs.Settle.{not_begun, try_settle};
 ghost use Rattle.cat_model.specs.Sound.{AreBegun, AreSmall, Quiet, Sound, its_number};
 ghost use Rattle.cat_events.specs.Coming.{HasCome, IsSteady};
 ghost use Rattle.cat_events.specs.Stepped.{come_to, AreMoments};
-ghost use Rattle.cat_reached.specs.Gathered.{Gathers, IsWithin};
+ghost use Rattle.cat_affected.specs.Gathered.{Gathers, IsWithin};
 ghost use Rattle.cat_core.specs.Answer.{IsSettled, settle_answer};
 ghost use Rattle.cat_model.specs.Step.{ref_at, refusal, source_at, start, step};
 ghost use Rattle.cat_model.specs.Step.Event.{Finish, Forget, ForgetNumber, Mutate, PutStitch, Refresh, ShelfDrop, ShelfPut, Take};
@@ -26,15 +26,12 @@ use crate::questions::{
     counts_of, is_quiet, issues_of, number_of, rests, stitch_after, stitch_reply,
 };
 use crate::waiting::waiting_at;
-use cat_changes::change::{forget, shelf_drop, shelf_put};
-use cat_changes::given::{given_by, serial_of};
-use cat_changes::mutation::{last_serial, mutate};
+use cat_collections::listing::{Copied, Listing};
+use cat_collections::map::Map;
 pub use cat_events::done::{Done, Stitched};
 use cat_events::finish::finish;
 use cat_events::lease::refresh;
 use cat_events::stitch::put_stitch;
-use cat_hold::hold::row_of;
-use cat_hold::layers::Layers;
 use cat_links::links::Links;
 use cat_model::records::Records;
 use cat_model::rows::IndexedRows;
@@ -42,17 +39,20 @@ use cat_model::types::{
     Acted, Counts, Fault, Finished, Order, Placed, Progress, Row, Settings, State, StateCounts,
     StitchOrder, Stop,
 };
+use cat_mutations::change::{forget, shelf_drop, shelf_put};
+use cat_mutations::given::{given_by, serial_of};
+use cat_mutations::mutation::{last_serial, mutate};
+use cat_plan::hold::row_of;
+use cat_plan::layers::Layers;
 use cat_search::index::{Index, list_pending};
 use cat_settle::order::MOST_EVENTS;
 use cat_settle::settle::settled;
-use cat_table::listing::{Copied, Listing};
-use cat_table::map::Map;
+use cat_state_parts::marks::Marks;
 use cat_tree::text::Text;
 use cat_types::input::Mutation;
 use cat_types::issue::Issue;
 use cat_types::node::Node;
 use cat_types::reference::Ref;
-use cat_values::marks::Marks;
 use std::alloc::{AllocError, Global};
 use std::marker::{Model, PhantomData};
 use std::mem;

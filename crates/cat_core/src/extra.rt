@@ -7,11 +7,11 @@ ghost use Rattle.cat_events.specs.Coming.{HasCome, IsSteady};
 ghost use Rattle.cat_events.specs.Stepped.{come_to};
 
 use crate::known::with_number;
-use cat_changes::change::forget;
-use cat_hold::layers::Layers;
+use cat_collections::listing::Copied;
 use cat_links::links::Links;
 use cat_model::types::{Fault, Settings, State};
-use cat_table::listing::Copied;
+use cat_mutations::change::forget;
+use cat_plan::layers::Layers;
 use cat_types::reference::Ref;
 use std::alloc::{AllocError, Global};
 

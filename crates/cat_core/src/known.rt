@@ -1,15 +1,15 @@
 //! What is asked of the references that are known, without memory.
 ghost use Rattle.std.specs.Prelude.{◌≡◌, option_map, nat_eq};
-ghost use Rattle.cat_table.specs.Table.{first, keys, text_cmp};
+ghost use Rattle.cat_collections.specs.Table.{first, keys, text_cmp};
 ghost use Rattle.cat_model.specs.Reply.{comes_after, next_known};
 ghost use Rattle.cat_model.specs.Step.{ref_at};
 ghost use Rattle.cat_core.specs.Least.{lesser_of};
 ghost use Rattle.cat_core.specs.Numbered.{AreApart, key_where};
 
+use cat_collections::key::Key;
+use cat_collections::map::Map;
 use cat_model::records::Records;
 use cat_model::types::{Orphan, State};
-use cat_table::key::Key;
-use cat_table::map::Map;
 use cat_types::reference::Ref;
 use std::cmp::Ordering;
 

@@ -10,13 +10,13 @@ ghost use Rattle.cat_events.specs.Stepped.{come_to, AreMoments};
 ghost use Rattle.cat_core.specs.Answer.{order_ahead, order_for};
 
 use crate::extra::take_ref;
+use cat_collections::listing::Copied;
 use cat_events::done::Done;
 use cat_events::lease::take_at;
 use cat_events::present::present_order;
-use cat_hold::layers::Layers;
-use cat_hold::parts::work_of;
 use cat_model::types::{Fault, Finished, Order, Record, Settings, State};
-use cat_table::listing::Copied;
+use cat_plan::layers::Layers;
+use cat_plan::parts::work_of;
 use cat_types::reference::Ref;
 use cat_types::work::{Outcome, Work};
 use std::alloc::{AllocError, Global};

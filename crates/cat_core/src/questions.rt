@@ -1,18 +1,18 @@
 //! What is asked of a state.
 ghost use Rattle.std.specs.Prelude.{◌≡◌, IfOk, IsTrue, option_map};
 ghost use Rattle.std.specs.FinMap.Entries.{is_sorted};
-ghost use Rattle.cat_table.specs.Table.{text_cmp};
-ghost use Rattle.cat_hold.specs.Linked.{AreLinked, AreRecorded};
+ghost use Rattle.cat_collections.specs.Table.{text_cmp};
+ghost use Rattle.cat_plan.specs.Linked.{AreLinked, AreRecorded};
 ghost use Rattle.cat_model.specs.Reply.{is_quiet, issues_at, next_mark, next_stitch, placed, resting, state_counts};
 ghost use Rattle.cat_model.specs.Sound.{its_number};
 
+use cat_collections::listing::{Copied, Listing};
 use cat_events::done::Stitched;
 use cat_events::present::present_stitch;
-use cat_hold::layers::Layers;
-use cat_hold::linked_parts::present_parts;
 use cat_links::links::Links;
 use cat_model::types::{Placed, State, StateCounts, StitchOrder};
-use cat_table::listing::{Copied, Listing};
+use cat_plan::layers::Layers;
+use cat_plan::linked_parts::present_parts;
 use cat_types::issue::Issue;
 use cat_types::reference::Ref;
 use std::alloc::{AllocError, Global};

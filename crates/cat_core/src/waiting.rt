@@ -8,9 +8,9 @@ ghost use Rattle.cat_model.specs.Reply.{place_cmp, waiting, waits};
 ghost use Rattle.cat_core.specs.Least.{nearer};
 ghost use Rattle.cat_core.specs.Waits.{is_above, nearest, next_waiting, place_of, waits_at};
 
+use cat_collections::key::Key;
 use cat_model::rows::IndexedRows;
 use cat_model::types::{Row, State};
-use cat_table::key::Key;
 use std::cmp::Ordering;
 
 // Rows by reference, and then by arrival.

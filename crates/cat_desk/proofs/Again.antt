@@ -27,7 +27,7 @@ use Rattle.cat_model.specs.declared.types.Progress.{Progress}
 use Rattle.cat_model.specs.declared.types.Settings.{Settings}
 use Rattle.cat_model.specs.declared.types.State.{State}
 use Rattle.cat_model.specs.declared.types.StitchOrder.{StitchOrder}
-use Rattle.cat_table.specs.Table.{put, text_cmp}
+use Rattle.cat_collections.specs.Table.{put, text_cmp}
 use Rattle.cat_desk.specs.Spare.{IsSpare, leaves_records, says_whole}
 
 refused : (v : Option Fault) (y : Reply) (m n : State) → leaves_records y ≡ false → leaves_records (or_refused v y) ≡ true → (cond (is_some v) m n).records ≡ m.records

@@ -1,9 +1,9 @@
 -- What a command does.
 use Rattle.std.specs.Prelude.{ℕ}
-use Rattle.cat_table.specs.Table.{Text}
+use Rattle.cat_collections.specs.Table.{Text}
 use Rattle.cat_events.specs.declared.done.Done.{Done}
 use Rattle.cat_events.specs.declared.done.Stitched.{Stitched}
-use Rattle.cat_hold.specs.declared.layers.Layers.{Ghosts}
+use Rattle.cat_plan.specs.declared.layers.Layers.{Ghosts}
 use Rattle.cat_model.specs.Catalogue.{Ref}
 use Rattle.cat_model.specs.Given.{given}
 use Rattle.cat_model.specs.declared.types.Given.{Given}

@@ -14,7 +14,7 @@ use Rattle.cat_model.specs.Settle.{try_settle}
 use Rattle.cat_model.specs.Sound.{its_number}
 use Rattle.cat_model.specs.Step.{ref_at, source_at}
 use Rattle.cat_model.specs.declared.types.State.{State}
-use Rattle.cat_table.specs.Table.{get}
+use Rattle.cat_collections.specs.Table.{get}
 
 -- Whether a deed leaves the stored rows as they are: a mutation whose serial isn't above the last one; a refresh, a take and what is done with
 -- stitch orders, since due moments, leases, marks and documents aren't stored; and what names a text, a reference or a number that isn't there.

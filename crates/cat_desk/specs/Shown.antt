@@ -8,7 +8,7 @@ use Rattle.cat_query.specs.declared.ask.Ask.{Ask}
 use Rattle.cat_query.specs.declared.ask.Ask.TheVariants as ask
 use Rattle.cat_replies.specs.Asks.{AskFault, text_or}
 use Rattle.cat_replies.specs.Asks.AskFault.{not_found, no_facet}
-use Rattle.cat_table.specs.Table.{get}
+use Rattle.cat_collections.specs.Table.{get}
 use Rattle.cat_tree.specs.Text.{text_of}
 
 -- whether a question asks for documents alone

@@ -7,7 +7,7 @@ ghost use Rattle.cat_replies.specs.Asks.{AskFault, ask_text, document_numbered, 
 
 use crate::command::Asked;
 use cat_core::catalogue::Catalogue;
-use cat_hold::layers::Layers;
+use cat_plan::layers::Layers;
 use cat_query::answers::{push_facets, push_list, push_many, push_page};
 use cat_query::ask::Ask;
 use cat_query::facets::FacetFault;

@@ -8,7 +8,7 @@
 //! `Fed` also tells what changed: who asks is told what the feed answers of the catalogue's documents at that time, and the catalogue stays as it
 //! is; no command and no other question changes the feed.
 //!
-//! `TimedDesk` is what a book asks of a catalogue with its clock and its feed, which a store may keep (cat_kept_desk): where a command wasn't kept,
+//! `TimedDesk` is what a book asks of a catalogue with its clock and its feed, which a store may keep (cat_stored_desk): where a command wasn't kept,
 //! the catalogue is as before, or has just the first event of a settle, and the reply says so (`specs/Kept.antt`). `Fed` is one that no store keeps.
 //!
 //! To take back a command, what the catalogue held before it must be there, and records can't be shared. In place of a copy for each command there

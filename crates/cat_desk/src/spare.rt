@@ -9,8 +9,8 @@ ghost use Rattle.cat_desk.specs.Spare.{IsSpare, leaves_records, says_whole};
 use crate::command::{Command, Reply};
 use crate::timed::act;
 use cat_core::catalogue::{Catalogue, Done, Saved, Stitched};
-use cat_hold::layers::Layers;
 use cat_model::types::Acted;
+use cat_plan::layers::Layers;
 use cat_types::input::Mutation;
 use std::alloc::{AllocError, Global};
 

@@ -1,7 +1,7 @@
 //! A catalogue with a clock.
 ghost use Rattle.std.specs.Prelude.{◌≡◌, ◌≢◌, ◌<◌, ◌≤◌, ◌-◌, ◌++◌, ◌^◌, List, ℕ};
 ghost use Rattle.std.specs.declared.option.Option.TheVariants.{Some};
-ghost use Rattle.cat_reached.specs.Gathered.{IsWithin};
+ghost use Rattle.cat_affected.specs.Gathered.{IsWithin};
 ghost use Rattle.cat_desk.specs.Acts.{Acts, ActsOnce, reply_as, settled_as};
 ghost use Rattle.cat_desk.specs.Asks.{AsksOnce};
 ghost use Rattle.cat_desk.specs.Deed.{Deed, deed_of};
@@ -11,13 +11,13 @@ ghost use Rattle.cat_model.specs.Settle.{try_settle};
 use crate::asks::{prepare, write_ask};
 use crate::command::{Asked, Command, Reply};
 use crate::desk::Desk;
+use cat_collections::listing::Listing;
 use cat_core::catalogue::{Catalogue, Done, Saved, Stitched};
 use cat_core::fault::{CoreFault, Cut};
-use cat_hold::layers::Layers;
 use cat_io::{Clock, FixedClock};
 use cat_model::types::{Acted, Counts, Finished, Order, Placed, StitchOrder};
+use cat_plan::layers::Layers;
 use cat_query::ask::Ask;
-use cat_table::listing::Listing;
 use cat_types::reference::Ref;
 use std::alloc::Global;
 

@@ -16,8 +16,8 @@ use crate::fed::Fed;
 use crate::feed_desk::{FeedAnswer, FeedDesk};
 use cat_core::catalogue::{Catalogue, Done, Stitched};
 use cat_feed::change::Since;
-use cat_hold::layers::Layers;
 use cat_io::Clock;
+use cat_plan::layers::Layers;
 use cat_query::ask::Ask;
 use std::alloc::Global;
 

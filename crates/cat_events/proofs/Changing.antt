@@ -6,8 +6,8 @@ use Rattle.std.specs.Option.{option_and_then}
 use Rattle.std.specs.List.{list_any}
 use Rattle.std.specs.FinMap.Entries.{is_some-find}
 use Rattle.std.proofs.lemmas.List.Folds.{list_any-append}
-use Rattle.cat_table.specs.Table.{Map, Text, get, keys, same_text, text_cmp}
-use Rattle.cat_table.proofs.Tables.{find-over, or_false_first, or_false_second, text_antisymmetric, text_total}
+use Rattle.cat_collections.specs.Table.{Map, Text, get, keys, same_text, text_cmp}
+use Rattle.cat_collections.proofs.Tables.{find-over, or_false_first, or_false_second, text_antisymmetric, text_total}
 use Rattle.cat_types.specs.declared.input.Offered.{Offered}
 use Rattle.cat_types.specs.declared.work.Output.{Output}
 use Rattle.cat_model.specs.declared.types.Given.{Given}

@@ -8,8 +8,8 @@ use Rattle.std.specs.List.{list_any}
 use Rattle.std.proofs.lemmas.Bool.Decides.{nat_tests}
 use Rattle.std.specs.Cmp.{nat_cmp_total}
 use Rattle.std.specs.FinMap.{nat_cmp-IsAntisymmetric}
-use Rattle.cat_table.specs.Table.{Text, get, keys, over, put, same_text}
-use Rattle.cat_table.proofs.Tables.{find-over, find-put_other, no_key, or_false_first, or_false_second, same_is, text_antisymmetric, text_total}
+use Rattle.cat_collections.specs.Table.{Text, get, keys, over, put, same_text}
+use Rattle.cat_collections.proofs.Tables.{find-over, find-put_other, no_key, or_false_first, or_false_second, same_is, text_antisymmetric, text_total}
 use Rattle.cat_types.specs.declared.input.Offered.{Offered}
 use Rattle.cat_types.specs.declared.work.Outcome.{Outcome}
 use Rattle.cat_types.specs.declared.work.Outcome.TheVariants.{Bad, Good}

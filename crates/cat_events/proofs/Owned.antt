@@ -9,9 +9,9 @@ use Rattle.std.specs.Ordering.{eq_by_cmp, nat_cmp}
 use Rattle.std.specs.List.{cons_option, filter, filter_map, list_any}
 use Rattle.std.specs.List.Sorted.{IsStrictlySortedBy}
 use Rattle.std.proofs.lemmas.List.Folds.{list_any-append}
-use Rattle.cat_table.specs.Table.{Text, get, keys, same_text, text_cmp}
-use Rattle.cat_table.proofs.Orders.{has-filter, in_order-rises}
-use Rattle.cat_table.proofs.Tables.{or_false_first, or_false_second, or_true, same_is, same_self, text_antisymmetric, text_total}
+use Rattle.cat_collections.specs.Table.{Text, get, keys, same_text, text_cmp}
+use Rattle.cat_collections.proofs.Orders.{has-filter, in_order-rises}
+use Rattle.cat_collections.proofs.Tables.{or_false_first, or_false_second, or_true, same_is, same_self, text_antisymmetric, text_total}
 use Rattle.cat_types.specs.declared.work.Outcome.{Outcome}
 use Rattle.cat_types.specs.declared.work.Outcome.TheVariants.{Good, Bad}
 use Rattle.cat_model.specs.declared.types.Given.{Given}
@@ -32,9 +32,9 @@ use Rattle.cat_model.specs.Sound.{Sound}
 use Rattle.cat_model.specs.Step.{finished_record, finished_rows, finished_state, forgotten, items_after, mutated_state, replaced, source_at, with_record}
 use Rattle.cat_laws.proofs.Alone.{reheld_stays}
 use Rattle.cat_model.proofs.Frame.{same_option-is}
-use Rattle.cat_hold.specs.Following.{IsOwnChange, IsReach, held_state}
-use Rattle.cat_hold.specs.declared.change.Own.{Own}
-use Rattle.cat_hold.proofs.Owned.{finish_is_own, forget_is_own, reach_is}
+use Rattle.cat_plan.specs.Following.{IsOwnChange, IsReach, held_state}
+use Rattle.cat_plan.specs.declared.change.Own.{Own}
+use Rattle.cat_plan.proofs.Owned.{finish_is_own, forget_is_own, reach_is}
 use Rattle.cat_claims.specs.Claimed.{IsClaimed, are_others}
 use Rattle.cat_events.specs.OwnChanges.{IsFinishing, IsMutating, finishing_alone, offered_refs}
 use Rattle.cat_events.specs.Planned.{IsOwned, IsReached}

@@ -6,9 +6,9 @@ use Rattle.std.specs.List.{AllByRecursion, filter}
 use Rattle.std.specs.List.Sorted.{IsStrictlySortedBy}
 use Rattle.std.specs.FinMap.Entries.{is_sorted}
 use Rattle.std.proofs.lemmas.List.{append_assoc, append-nil, drop_all, drop_more, length-drop, take_all}
-use Rattle.cat_table.specs.Table.{get, keys, same_text, text_cmp, text_total, text_antisymmetric}
-use Rattle.cat_table.proofs.Orders.{keys_rise}
-use Rattle.cat_table.proofs.Tables.{same_is, same_self}
+use Rattle.cat_collections.specs.Table.{get, keys, same_text, text_cmp, text_total, text_antisymmetric}
+use Rattle.cat_collections.proofs.Orders.{keys_rise}
+use Rattle.cat_collections.proofs.Tables.{same_is, same_self}
 use Rattle.cat_model.specs.Catalogue.{Holders, Ref, held}
 use Rattle.cat_claims.specs.Claimed.{are_others, held_by_another, newly_held}
 

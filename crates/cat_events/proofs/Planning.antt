@@ -2,8 +2,8 @@
 use Rattle.std.proofs.Common.{◌≡◌, sym}
 use Rattle.cat_model.specs.declared.types.State.{State}
 use Rattle.cat_model.specs.Catalogue.{reheld}
-use Rattle.cat_hold.specs.Followed.{followed}
-use Rattle.cat_hold.specs.declared.following.Following.{Following}
+use Rattle.cat_plan.specs.Followed.{followed}
+use Rattle.cat_plan.specs.declared.following.Following.{Following}
 use Rattle.cat_events.specs.Planned.{IsOwned, given_by}
 use Rattle.cat_events.specs.declared.plan.OwnChange.{OwnChange}
 

@@ -8,13 +8,13 @@ use Rattle.std.specs.FinMap.{nat_cmp-IsAntisymmetric}
 use Rattle.std.specs.FinMap.Entries.{is_sorted, same_entries}
 use Rattle.std.proofs.lemmas.Bool.Decides.{nat_tests}
 use Rattle.cat_tree.proofs.Equality.{is_same-true}
-use Rattle.cat_table.specs.Table.{Map, get, keys, over, put, same_text}
+use Rattle.cat_collections.specs.Table.{Map, get, keys, over, put, same_text}
 use Rattle.cat_types.specs.declared.input.Offered.{Offered}
 use Rattle.cat_types.specs.declared.work.Outcome.{Outcome}
 use Rattle.cat_types.specs.declared.work.Outcome.TheVariants.{Good, Bad}
 use Rattle.cat_types.specs.declared.work.Output.{Output}
-use Rattle.cat_table.specs.Order.{in_order}
-use Rattle.cat_table.proofs.Tables.{text_total, text_antisymmetric, and_first, and_second, find-over, is_sorted-tabulate, same_is, same_self}
+use Rattle.cat_collections.specs.Order.{in_order}
+use Rattle.cat_collections.proofs.Tables.{text_total, text_antisymmetric, and_first, and_second, find-over, is_sorted-tabulate, same_is, same_self}
 use Rattle.cat_model.specs.declared.types.Fault.TheVariants.{Spent}
 use Rattle.cat_model.specs.declared.types.Counter.{Counter}
 use Rattle.cat_model.specs.declared.types.Counter.TheVariants.{Arrival, Number, Token, Ticket}

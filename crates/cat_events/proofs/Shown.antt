@@ -6,8 +6,8 @@ use Rattle.std.specs.Ordering.{eq_by_cmp}
 use Rattle.std.specs.List.{list_any}
 use Rattle.std.specs.Cmp.{nat_cmp_total}
 use Rattle.std.specs.FinMap.{nat_cmp-IsAntisymmetric}
-use Rattle.cat_table.specs.Table.{keys}
-use Rattle.cat_table.proofs.Tables.{found_key, or_true, same_is}
+use Rattle.cat_collections.specs.Table.{keys}
+use Rattle.cat_collections.proofs.Tables.{found_key, or_true, same_is}
 use Rattle.cat_model.specs.Catalogue.{Ref, Rows, row_at}
 use Rattle.cat_model.specs.declared.types.Origin.{Origin}
 use Rattle.cat_model.specs.declared.types.Row.{Row}

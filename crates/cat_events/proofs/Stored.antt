@@ -7,13 +7,13 @@ use Rattle.std.specs.Option.{option_and_then}
 use Rattle.std.specs.FinMap.Entries.{find-where_key, is_sorted, is_sorted-where_key, same_entries}
 use Rattle.std.proofs.lemmas.Bool.{ltb-true}
 use Rattle.cat_tree.specs.Data.{Data}
-use Rattle.cat_table.specs.Rows.{without}
-use Rattle.cat_table.specs.Table.{Map, Text, get, keys, put, same_text, text_cmp}
-use Rattle.cat_table.proofs.Tables.{find-over, is_sorted-tabulate, text_antisymmetric, text_total}
+use Rattle.cat_collections.specs.Rows.{without}
+use Rattle.cat_collections.specs.Table.{Map, Text, get, keys, put, same_text, text_cmp}
+use Rattle.cat_collections.proofs.Tables.{find-over, is_sorted-tabulate, text_antisymmetric, text_total}
 use Rattle.cat_links.specs.Links.{Emitted}
 use Rattle.cat_model.specs.declared.types.Counter.TheVariants.{Arrival, Number, Token, Ticket}
 use Rattle.cat_model.specs.declared.types.Fault.TheVariants.{Spent}
-use Rattle.cat_hold.specs.Linked.{AreLinked}
+use Rattle.cat_plan.specs.Linked.{AreLinked}
 use Rattle.cat_model.specs.declared.types.Settings.{Settings}
 use Rattle.cat_model.specs.declared.types.State.{State}
 use Rattle.cat_model.specs.declared.types.StitchOrder.{StitchOrder}

@@ -3,7 +3,7 @@ use Rattle.std.specs.Prelude.{Bool, true, false, ◌&&◌, [], ◌∷◌}
 use Rattle.std.specs.declared.option.Option.{Option}
 use Rattle.std.specs.declared.option.Option.TheVariants.{None, Some}
 use Rattle.cat_tree.specs.Same.{is_same}
-use Rattle.cat_table.specs.Table.{Map, same_text}
+use Rattle.cat_collections.specs.Table.{Map, same_text}
 use Rattle.cat_types.specs.declared.input.Offered.{Offered}
 use Rattle.cat_types.specs.declared.work.Outcome.{Outcome}
 use Rattle.cat_types.specs.declared.work.Output.{Output}

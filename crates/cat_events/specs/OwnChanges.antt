@@ -4,7 +4,7 @@ use Rattle.std.specs.declared.alloc.Global.{Global}
 use Rattle.std.specs.declared.boxed.Box.{Box}
 use Rattle.std.specs.declared.option.Option.{Option}
 use Rattle.std.specs.declared.option.Option.TheVariants.{None, Some}
-use Rattle.cat_table.specs.Table.{Text, get, keys, put, text_cmp}
+use Rattle.cat_collections.specs.Table.{Text, get, keys, put, text_cmp}
 use Rattle.cat_types.specs.declared.work.Outcome.{Outcome}
 use Rattle.cat_types.specs.declared.work.Outcome.TheVariants.{Good, Bad}
 use Rattle.cat_model.specs.declared.types.Leaving.{Leaving}
@@ -16,7 +16,7 @@ use Rattle.cat_model.specs.Catalogue.{Offers, Ref}
 use Rattle.cat_model.specs.declared.types.Given.{Given}
 use Rattle.cat_model.specs.Step.{finished_rows, replaced}
 use Rattle.cat_claims.specs.Claimed.{IsClaimed}
-use Rattle.cat_hold.specs.declared.change.Own.{Own}
+use Rattle.cat_plan.specs.declared.change.Own.{Own}
 use Rattle.cat_events.specs.Again.{kept_offers}
 use Rattle.cat_claims.specs.declared.types.Claimed.{Claimed}
 use Rattle.cat_events.specs.declared.plan.Inputs.TheVariants.{Providers, Same}

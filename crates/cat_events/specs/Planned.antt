@@ -4,16 +4,16 @@ use Rattle.std.specs.declared.alloc.Global.{Global}
 use Rattle.std.specs.declared.boxed.Box.{Box}
 use Rattle.std.specs.declared.option.Option.{Option}
 use Rattle.std.specs.declared.option.Option.TheVariants.{None, Some}
-use Rattle.cat_table.specs.Table.{Map}
+use Rattle.cat_collections.specs.Table.{Map}
 use Rattle.cat_model.specs.declared.types.ProviderInputs.{ProviderInputs}
 use Rattle.cat_model.specs.declared.types.Record.{Record}
 use Rattle.cat_model.specs.declared.types.Orphan.{Orphan}
 use Rattle.cat_model.specs.declared.types.State.{State}
 use Rattle.cat_model.specs.Catalogue.{Holders, Ref, Rows, Rules, Shelf}
-use Rattle.cat_hold.specs.Amended.{amended}
-use Rattle.cat_hold.specs.Followed.{followed}
-use Rattle.cat_hold.specs.Following.{IsOwnChange, IsReach, held_state}
-use Rattle.cat_hold.specs.declared.amended.Amendment.{Amendment}
+use Rattle.cat_plan.specs.Amended.{amended}
+use Rattle.cat_plan.specs.Followed.{followed}
+use Rattle.cat_plan.specs.Following.{IsOwnChange, IsReach, held_state}
+use Rattle.cat_plan.specs.declared.amended.Amendment.{Amendment}
 use Rattle.cat_claims.specs.declared.types.Claimed.{Claimed}
 use Rattle.cat_events.specs.declared.plan.Inputs.{Inputs}
 use Rattle.cat_events.specs.declared.plan.Inputs.TheVariants.{Same, Providers, Shelf as ShelfInputs}

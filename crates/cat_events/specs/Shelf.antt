@@ -2,11 +2,11 @@
 use Rattle.std.specs.Prelude.{◌≡◌, Bool, false, not, List}
 use Rattle.std.specs.List.{filter_map}
 use Rattle.std.specs.Option.{option_map}
-use Rattle.cat_table.specs.Table.{Text, get, same_text}
+use Rattle.cat_collections.specs.Table.{Text, get, same_text}
 use Rattle.cat_model.specs.declared.types.State.{State}
 use Rattle.cat_model.specs.Rows.{Rows, reading, row_at}
 use Rattle.cat_model.specs.Catalogue.{Ref, Rules, Shelf, same_option, work}
-use Rattle.cat_hold.specs.Following.{held_state}
+use Rattle.cat_plan.specs.Following.{held_state}
 
 -- a state with another shelf
 abbrev pub with_shelf : Shelf → State → State

@@ -6,7 +6,7 @@ use Rattle.cat_model.specs.declared.types.Settings.{Settings}
 use Rattle.cat_model.specs.declared.types.State.{State}
 use Rattle.std.specs.Prelude.{ℕ, ◌<◌, ◌≤◌, ◌^◌, Bool, ◌||◌, is_some, nat_lt}
 use Rattle.cat_model.specs.declared.types.Fault.TheVariants.{TooLarge}
-use Rattle.cat_table.specs.Table.{Text, get, put, text_cmp}
+use Rattle.cat_collections.specs.Table.{Text, get, put, text_cmp}
 use Rattle.cat_model.specs.Catalogue.{Rules}
 use Rattle.cat_model.specs.Step.{Event, change, fault_where, refusal, without_key}
 use Rattle.cat_events.specs.declared.stepped.Stepped.{Stepped}

@@ -3,8 +3,8 @@ ghost use Rattle.std.specs.Prelude.{◌≡◌, ◌&&◌, Option, Bool, option_ma
 ghost use Rattle.std.specs.Ordering.{eq_by_cmp};
 ghost use Rattle.cat_events.specs.Again.{kept_offers, offers_again, same_offer, same_offers};
 
+use cat_collections::key::Key;
 use cat_model::types::Record;
-use cat_table::key::Key;
 use cat_types::input::Offered;
 use cat_types::reference::Ref;
 use cat_types::work::Outcome;

@@ -1,19 +1,19 @@
 //! A plan is made to stand: its room is taken first, and then nothing can fail.
 ghost use Rattle.std.specs.Prelude.{◌≡◌, [], is_ok, if◌then◌else◌, IfOk};
-ghost use Rattle.cat_hold.specs.Amended.{amended};
+ghost use Rattle.cat_plan.specs.Amended.{amended};
 ghost use Rattle.cat_events.specs.Planned.{given_by, planned, with_marks, with_orphans, with_records, without_documents};
 
 use crate::plan::{Inputs, Plan};
 use cat_claims::types::Claimed;
-use cat_hold::amended::Amendment;
+use cat_collections::listing::Listing;
+use cat_collections::map::Map;
+use cat_collections::tree::MOST;
 use cat_links::links::Links;
 use cat_model::records::ready;
 use cat_model::types::{Orphan, Record, State};
-use cat_table::listing::Listing;
-use cat_table::map::Map;
-use cat_table::tree::MOST;
+use cat_plan::amended::Amendment;
+use cat_state_parts::index::Index;
 use cat_types::reference::Ref;
-use cat_values::index::Index;
 use std::alloc::{AllocError, Global};
 
 // A map without the entries of some references, and then with others put. What stays is shared.

@@ -1,7 +1,7 @@
 //! Who holds what once one origin offers something else.
 ghost use Rattle.std.specs.Prelude.{◌≡◌, ◌++◌, ◌≤◌, ◌^◌, IfOk, option_map, true};
 ghost use Rattle.std.specs.declared.option.Option.TheVariants.{Some};
-ghost use Rattle.cat_table.specs.Table.{get, keys};
+ghost use Rattle.cat_collections.specs.Table.{get, keys};
 ghost use Rattle.cat_types.specs.declared.input.Offered.{Offered as OfferedValue};
 ghost use Rattle.cat_model.specs.declared.types.Origin.TheVariants.{Entity};
 ghost use Rattle.cat_model.specs.Catalogue.{Ref as RefValue, may_offer};
@@ -16,9 +16,9 @@ use crate::again::kept_offers;
 use cat_claims::claims::reclaimed;
 use cat_claims::replaced::{Offering, replaced_rows};
 use cat_claims::types::Claimed;
-use cat_hold::parts::append;
+use cat_collections::listing::{Copied, Listing};
 use cat_model::types::{Origin, Record, State};
-use cat_table::listing::{Copied, Listing};
+use cat_plan::parts::append;
 use cat_types::input::Offered;
 use cat_types::reference::Ref;
 use std::alloc::{AllocError, Global};

@@ -1,8 +1,8 @@
 //! Results with their orders.
 ghost use Rattle.std.specs.Prelude.{◌≡◌, IfOk};
 
-use cat_hold::layers::Layers;
 use cat_model::types::{Order, StitchOrder};
+use cat_plan::layers::Layers;
 use cat_types::node::Node;
 use cat_types::work::Outcome;
 use std::alloc::{AllocError, Global};

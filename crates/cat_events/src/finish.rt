@@ -1,9 +1,9 @@
 //! Finishes.
 ghost use Rattle.std.specs.Prelude.{◌≡◌, ◌+◌, ◌<◌, ◌≤◌, ◌^◌, true, IfOk, MatchBool, Option};
 ghost use Rattle.std.specs.declared.option.Option.TheVariants.{Some};
-ghost use Rattle.cat_table.specs.Table.{get};
+ghost use Rattle.cat_collections.specs.Table.{get};
 ghost use Rattle.cat_types.specs.declared.work.Outcome.TheVariants.{Good};
-ghost use Rattle.cat_hold.specs.Linked.{AreLinked};
+ghost use Rattle.cat_plan.specs.Linked.{AreLinked};
 ghost use Rattle.cat_model.specs.Catalogue.{Issues, frame, held};
 ghost use Rattle.cat_model.specs.Sound.{AreOffers};
 ghost use Rattle.cat_model.specs.Step.{finished_record, finished_state, leaving};
@@ -22,11 +22,11 @@ use crate::plan::{Inputs, OwnChange, Plan, planned};
 use crate::present::present_order;
 use crate::refusal::unless_spent;
 use crate::stepped::{Step, take_in};
-use cat_hold::change::Own;
-use cat_hold::layers::Layers;
+use cat_collections::listing::{Copied, Listing};
 use cat_links::links::Links;
 use cat_model::types::{Fault, Leaving, OrphanRule, Record, Settings, State};
-use cat_table::listing::{Copied, Listing};
+use cat_plan::change::Own;
+use cat_plan::layers::Layers;
 use cat_types::work::{Outcome, Output};
 use std::alloc::{AllocError, Global};
 

@@ -1,7 +1,7 @@
 //! What changes a record in place: takes and refreshes. Neither takes memory.
 ghost use Rattle.std.specs.Prelude.{◌≡◌, ◌+◌, ◌<◌, ◌≤◌, ◌^◌, IfOk, IsTrue, Option, is_some, option_map};
 ghost use Rattle.std.specs.FinMap.Entries.{is_sorted};
-ghost use Rattle.cat_table.specs.Table.{get, put, text_cmp};
+ghost use Rattle.cat_collections.specs.Table.{get, put, text_cmp};
 ghost use Rattle.cat_model.specs.Sound.{AreSmall};
 ghost use Rattle.cat_model.specs.Step.{leased, with_record};
 ghost use Rattle.cat_model.specs.Step.Event.{Refresh, TakeAt};
@@ -9,8 +9,8 @@ ghost use Rattle.cat_events.specs.Coming.{came_fault, came_state};
 ghost use Rattle.cat_events.specs.Stepped.{come_to, AreMoments};
 
 use crate::refusal::MOST;
-use cat_hold::layers::Layers;
 use cat_model::types::{Counter, Fault, Lease, Settings, State};
+use cat_plan::layers::Layers;
 use cat_types::reference::Ref;
 
 /// Leases a record at this moment, if there is one, whatever lease it has. No memory is taken.

@@ -2,19 +2,19 @@
 ghost use Rattle.std.specs.Prelude.{◌≡◌, ◌≤◌, ◌^◌, IfOk};
 ghost use Rattle.cat_model.specs.declared.types.State.{State as StateValue};
 ghost use Rattle.cat_model.specs.Catalogue.{frame};
-ghost use Rattle.cat_hold.specs.Linked.{AreLinked};
+ghost use Rattle.cat_plan.specs.Linked.{AreLinked};
 ghost use Rattle.cat_events.specs.Coming.{IsSteady};
 ghost use Rattle.cat_events.specs.Planned.{IsOwned, IsReached, fresh_of, holders_after, leaving_of, planned, rows_after, shelf_after};
 
 use cat_claims::types::Claimed;
-use cat_hold::change::{Change, Own};
-use cat_hold::following::{Following, plan};
-use cat_hold::layers::Layers;
+use cat_collections::listing::Listing;
+use cat_collections::map::Map;
 use cat_links::links::Links;
 use cat_model::rows::IndexedRows;
 use cat_model::types::{Leaving, ProviderInputs, State};
-use cat_table::listing::Listing;
-use cat_table::map::Map;
+use cat_plan::change::{Change, Own};
+use cat_plan::following::{Following, plan};
+use cat_plan::layers::Layers;
 use cat_tree::text::Text;
 use cat_types::reference::Ref;
 use std::alloc::{AllocError, Global};

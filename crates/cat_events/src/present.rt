@@ -1,18 +1,18 @@
 //! Whether an order is the present one.
 ghost use Rattle.std.specs.Prelude.{◌≡◌, ◌&&◌, IfOk, Option, Bool, option_map};
 ghost use Rattle.std.specs.declared.option.Option.TheVariants.{Some};
-ghost use Rattle.cat_table.specs.Table.{get};
+ghost use Rattle.cat_collections.specs.Table.{get};
 ghost use Rattle.cat_links.specs.Links.{Emitted};
-ghost use Rattle.cat_hold.specs.Linked.{AreLinked, AreRecorded};
+ghost use Rattle.cat_plan.specs.Linked.{AreLinked, AreRecorded};
 ghost use Rattle.cat_model.specs.Catalogue.{same_option, work};
 ghost use Rattle.cat_model.specs.Step.{has_token, is_present, is_present_stitch, is_ticket};
 ghost use Rattle.cat_events.specs.Again.{is_present_order};
 
-use cat_hold::layers::Layers;
-use cat_hold::linked_parts::present_parts;
-use cat_hold::parts::work_of;
 use cat_links::links::Links;
 use cat_model::types::{Lease, Order, Record, State, StitchOrder};
+use cat_plan::layers::Layers;
+use cat_plan::linked_parts::present_parts;
+use cat_plan::parts::work_of;
 use cat_types::parts::Parts;
 use cat_types::work::Work;
 use std::alloc::{AllocError, Global};

@@ -1,6 +1,6 @@
 //! What an event comes to, and the refusals that any event may have.
 ghost use Rattle.std.specs.Prelude.{◌≡◌, ◌<◌, ◌^◌, IfOk, Option};
-ghost use Rattle.cat_hold.specs.Linked.{AreLinked};
+ghost use Rattle.cat_plan.specs.Linked.{AreLinked};
 ghost use Rattle.cat_model.specs.declared.types.State.{State as StateValue};
 ghost use Rattle.cat_model.specs.Catalogue.{Rules};
 ghost use Rattle.cat_model.specs.Step.{or_else, spent};
@@ -11,9 +11,9 @@ ghost use Rattle.cat_events.specs.Stepped.{over_limit, stepped};
 use crate::plan::{Inputs, Plan, shelf_after};
 use crate::stepped::Step;
 use cat_claims::types::Claimed;
-use cat_hold::layers::Layers;
+use cat_collections::map::Map;
 use cat_model::types::{Counter, Fault, ProviderInputs, Settings, State};
-use cat_table::map::Map;
+use cat_plan::layers::Layers;
 use cat_tree::text::Text;
 use std::alloc::{AllocError, Global};
 

@@ -1,7 +1,7 @@
 //! What an event comes to.
 ghost use Rattle.std.specs.Prelude.{◌≡◌, IfOk, IsTrue, Option};
 ghost use Rattle.std.specs.FinMap.Entries.{is_sorted};
-ghost use Rattle.cat_table.specs.Table.{text_cmp};
+ghost use Rattle.cat_collections.specs.Table.{text_cmp};
 ghost use Rattle.cat_model.specs.Sound.{AreOrdered};
 ghost use Rattle.cat_events.specs.Coming.{came_fault, links_after, seen, state_after};
 

@@ -6,10 +6,10 @@ ghost use Rattle.cat_events.specs.Stepped.{come_to};
 
 use crate::done::Stitched;
 use crate::present::present_stitch;
-use cat_hold::layers::Layers;
+use cat_collections::listing::Copied;
 use cat_links::links::Links;
 use cat_model::types::{Fault, Settings, State};
-use cat_table::listing::Copied;
+use cat_plan::layers::Layers;
 use std::alloc::{AllocError, Global};
 
 /// Stores a document, where its order is the present one. Otherwise it is late, and changes nothing.

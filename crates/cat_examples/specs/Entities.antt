@@ -2,7 +2,7 @@
 use Rattle.std.specs.Prelude.{◌^◌, List, [], ◌∷◌, ◌++◌, map, codes, true, false}
 use Rattle.std.specs.declared.option.Option.TheVariants.{None, Some}
 use Rattle.cat_tree.specs.Data.{Data, words, list, dict, items_of, members_of}
-use Rattle.cat_table.specs.Table.{Text, Map}
+use Rattle.cat_collections.specs.Table.{Text, Map}
 use Rattle.cat_types.specs.declared.input.Offered.{Offered}
 use Rattle.cat_types.specs.declared.relation.Relation.{Relation}
 use Rattle.cat_types.specs.declared.relation.RelKind.TheVariants.{OwnedBy, OwnerOf}

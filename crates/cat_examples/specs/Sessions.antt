@@ -1,15 +1,15 @@
 -- Sessions of the program over the real lower layers, from an empty catalogue on.
 use Rattle.std.specs.Prelude.{ℕ, List, [], ◌∷◌, ◌++◌, map, codes}
-use Rattle.cat_table.specs.Table.{Text}
+use Rattle.cat_collections.specs.Table.{Text}
 use Rattle.cat_layers.specs.Layered.{layered}
 use Rattle.cat_io.specs.Lines.{lines as lines_of}
 use Rattle.cat_io.specs.Runs.{after_lines, replies}
 use Rattle.cat_io.specs.Word.{Word, plain}
 use Rattle.cat_model.specs.declared.types.OrphanRule.{OrphanRule}
 use Rattle.cat_model.specs.declared.types.OrphanRule.TheVariants.{Keep}
-use Rattle.cat_transcript.specs.Program.{program_settings, session_start}
-use Rattle.cat_transcript.specs.Session.{session_after, session_reply}
-use Rattle.cat_transcript.specs.declared.state.SessionState.{SessionState}
+use Rattle.cat_session_model.specs.Program.{program_settings, session_start}
+use Rattle.cat_session_model.specs.Session.{session_after, session_reply}
+use Rattle.cat_session_model.specs.declared.state.SessionState.{SessionState}
 
 -- no line lacks memory
 abbrev pub plainly : List Text → List Word

@@ -5,7 +5,7 @@
 //! definitions say what a catalogue should do; the sessions are those of the folder examples/, line by line and with each byte
 //! of the replies, over the real lower layers and the settings of the program.
 //!
-//! It stands on cat_transcript for the session of the program, on cat_io and cat_commands for lines, on cat_layers, with the
+//! It stands on cat_session_model for the session of the program, on cat_io and cat_session_lines for lines, on cat_layers, with the
 //! leaves below, for trees, relations, results and documents, and on cat_model for the abstract catalogue.
 #![tactic(auto)]
 

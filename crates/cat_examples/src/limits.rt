@@ -8,7 +8,7 @@ ghost use Rattle.cat_model.specs.declared.types.Counter.TheVariants.{Token};
 ghost use Rattle.cat_model.specs.declared.types.Fault.TheVariants.{Spent, TooLarge};
 ghost use Rattle.cat_layers.specs.Layered.{layered};
 ghost use Rattle.cat_model.specs.declared.types.OrphanRule.TheVariants.{Keep};
-ghost use Rattle.cat_transcript.specs.Program.{program_settings};
+ghost use Rattle.cat_session_model.specs.Program.{program_settings};
 ghost use Rattle.cat_examples.specs.Entities.{at_spent_tokens, before_settle, component, component_given};
 ghost use Rattle.cat_examples.specs.Sessions.{first_line, printed, said_with};
 

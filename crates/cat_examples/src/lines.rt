@@ -7,11 +7,11 @@ ghost use Rattle.cat_types.specs.declared.input.Mutation.TheVariants.{Full, Delt
 ghost use Rattle.cat_inputs.specs.Reading.{tree_reading};
 ghost use Rattle.cat_inputs.specs.declared.fault.InputFault.TheVariants.{Json, NoRef, Shape};
 ghost use Rattle.cat_inputs.specs.declared.fault.Place.TheVariants.{EntityRefs};
-ghost use Rattle.cat_commands.specs.Lines.{line_of};
-ghost use Rattle.cat_commands.specs.declared.fault.LineFault.TheVariants.{BadWord, BadArguments, Input, Query, Reference};
+ghost use Rattle.cat_session_lines.specs.Lines.{line_of};
+ghost use Rattle.cat_session_lines.specs.declared.fault.LineFault.TheVariants.{BadWord, BadArguments, Input, Query, Reference};
 ghost use Rattle.cat_query.specs.declared.ask.Ask.TheVariants.{Get, Many, Quiet};
 ghost use Rattle.cat_query.specs.declared.fault.QueryFault.TheVariants.{BadLimit};
-ghost use Rattle.cat_commands.specs.declared.line.Line.TheVariants.{Ask, Mutate, ShelfPut, Clock, Finish, Settle};
+ghost use Rattle.cat_session_lines.specs.declared.line.Line.TheVariants.{Ask, Mutate, ShelfPut, Clock, Finish, Settle};
 ghost use Rattle.cat_io.specs.Lines.{lines};
 
 /// An LF ends a line, one CR before it doesn't belong to the line, and a last line needs no LF.

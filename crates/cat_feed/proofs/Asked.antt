@@ -4,7 +4,7 @@ use Rattle.std.specs.Prelude.{if◌then◌else◌, IfOk, IfErr}
 use Rattle.std.specs.declared.option.Option.{Option}
 use Rattle.std.specs.declared.option.Option.TheVariants.{None, Some}
 use Rattle.std.specs.FinMap.Entries.{is_sorted}
-use Rattle.cat_table.specs.Table.{text_cmp}
+use Rattle.cat_collections.specs.Table.{text_cmp}
 use Rattle.cat_feed.specs.Changes.{Difference, Documents, above, applied, differences, numbered, sets}
 use Rattle.cat_feed.specs.Feed.{Follows, IsKept, answer, asked, changes_since, feed_after, first_place, is_gone, is_over, is_spent, is_taken, least, place, refused, taken_in, with_changes}
 use Rattle.cat_feed.specs.declared.change.Change.{Change}

@@ -4,9 +4,9 @@ use Rattle.std.specs.declared.option.Option.{Option}
 use Rattle.std.specs.declared.option.Option.TheVariants.{None, Some}
 use Rattle.std.specs.Ordering.{eq_by_cmp, is_eq, is_lt, ordering_reverse}
 use Rattle.std.specs.FinMap.Entries.{below_all, find, find-where_key, is_sorted, is_sorted-put, is_sorted-where_key}
-use Rattle.cat_table.specs.Rows.{without}
-use Rattle.cat_table.specs.Table.{Map, Text, get, put, text_cmp, same_text, text_total, text_antisymmetric}
-use Rattle.cat_table.proofs.Tables.{same_is, same_self}
+use Rattle.cat_collections.specs.Rows.{without}
+use Rattle.cat_collections.specs.Table.{Map, Text, get, put, text_cmp, same_text, text_total, text_antisymmetric}
+use Rattle.cat_collections.proofs.Tables.{same_is, same_self}
 
 pub both : (a b : Bool) → T a → T b → T (a && b)
 both true b p q = q

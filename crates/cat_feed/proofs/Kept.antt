@@ -7,7 +7,7 @@ use Rattle.std.proofs.lemmas.Bool.{cases_lt}
 use Rattle.std.proofs.lemmas.List.{drop_all}
 use Rattle.std.proofs.lemmas.List.Elements.{filter-append}
 use Rattle.std.specs.FinMap.Entries.{is_sorted}
-use Rattle.cat_table.specs.Table.{text_cmp}
+use Rattle.cat_collections.specs.Table.{text_cmp}
 use Rattle.cat_feed.specs.Changes.{Difference, Documents, above, applied, differences, last, numbered}
 use Rattle.cat_feed.specs.Feed.{AreNumbered, Follows, IsKept, is_over, is_spent, least, taken_in, with_changes}
 use Rattle.cat_feed.specs.declared.change.Change.{Change}

@@ -7,7 +7,7 @@ use Rattle.std.specs.FinMap.Entries.{below_all, find-put, is_sorted, is_sorted-p
 use Rattle.cat_tree.specs.Data.{Data}
 use Rattle.cat_tree.specs.Same.{is_same}
 use Rattle.cat_tree.proofs.Equality.{is_same-true}
-use Rattle.cat_table.specs.Table.{Text, get, same_text, text_cmp, text_total, text_antisymmetric}
+use Rattle.cat_collections.specs.Table.{Text, get, same_text, text_cmp, text_total, text_antisymmetric}
 use Rattle.cat_feed.specs.Changes.{Difference, Documents, applied, differences, is_unchanged, new_at, numbered, sets, with_set}
 use Rattle.cat_feed.specs.declared.change.Change.{Change}
 use Rattle.cat_feed.proofs.Finds.{first, second, same_is_text, find-below, find-without, sorted-without}

@@ -3,7 +3,7 @@ use Rattle.std.proofs.Common.{T, ◌≡◌, ℕ, ◌+◌, ◌-◌, ◌<◌, ◌�
 use Rattle.std.proofs.lemmas.Bool.Decides.{nat_tests}
 use Rattle.std.specs.Prelude.{if◌then◌else◌, IsTrue}
 use Rattle.std.specs.FinMap.Entries.{is_sorted}
-use Rattle.cat_table.specs.Table.{text_cmp}
+use Rattle.cat_collections.specs.Table.{text_cmp}
 use Rattle.cat_feed.specs.Changes.{Documents, above, applied, differences, numbered, sets}
 use Rattle.cat_feed.specs.Feed.{AreNumbered, Follows, IsKept, answer, asked, begun, changes_since, feed_after, first_place, is_gone, is_spent, is_taken, least, place, refused, taken_in}
 use Rattle.cat_feed.specs.declared.change.Change.{Change}

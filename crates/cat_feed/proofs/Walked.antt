@@ -9,8 +9,8 @@ use Rattle.std.proofs.lemmas.List.Folds.{list_any-append}
 use Rattle.std.specs.FinMap.Entries.{below_all, by_order, find, is_sorted, same_entries}
 use Rattle.cat_tree.specs.Data.{Data}
 use Rattle.cat_tree.specs.Same.{is_same}
-use Rattle.cat_table.specs.Table.{Text, get, keys, same_text, text_cmp, text_total, text_antisymmetric}
-use Rattle.cat_table.proofs.Tables.{find-tabulate_all, is_sorted-tabulate, no_key, or_false_first, or_false_second}
+use Rattle.cat_collections.specs.Table.{Text, get, keys, same_text, text_cmp, text_total, text_antisymmetric}
+use Rattle.cat_collections.proofs.Tables.{find-tabulate_all, is_sorted-tabulate, no_key, or_false_first, or_false_second}
 use Rattle.cat_feed.specs.Changes.{Difference, Documents, differences, new_at, sets}
 use Rattle.cat_feed.specs.Walk.{unless_same, walked, walked_at}
 use Rattle.cat_feed.proofs.Finds.{both, first, second, to_T, lt_from_less, less_from_greater, same_is_text, below_less, find-below}

@@ -3,8 +3,8 @@ use Rattle.std.specs.Prelude.{ℕ, ◌+◌, ◌-◌, Bool, true, false, List, []
 use Rattle.std.specs.List.{filter}
 use Rattle.cat_tree.specs.Data.{Data}
 use Rattle.cat_tree.specs.Same.{is_same}
-use Rattle.cat_table.specs.Rows.{without}
-use Rattle.cat_table.specs.Table.{Map, Text, get, keys, put, tabulate, text_cmp}
+use Rattle.cat_collections.specs.Rows.{without}
+use Rattle.cat_collections.specs.Table.{Map, Text, get, keys, put, tabulate, text_cmp}
 use Rattle.cat_feed.specs.declared.change.Change.{Change}
 
 -- documents by reference, in order of reference

@@ -1,7 +1,7 @@
 -- Places of feeds as texts.
 use Rattle.std.specs.Prelude.{ℕ, List, ◌∷◌, ◌++◌, Option, None, Some, bytes_eq, if◌then◌else◌}
 use Rattle.std.specs.Fmt.{decimal}
-use Rattle.cat_commands.specs.Arguments.{number}
+use Rattle.cat_session_lines.specs.Arguments.{number}
 use Rattle.cat_feed.specs.declared.change.Since.{Since}
 use Rattle.cat_types.specs.Reading.{cut}
 

@@ -7,7 +7,7 @@ use Rattle.cat_tree.specs.declared.read.TreeFault.{TreeFault}
 use Rattle.cat_tree.specs.declared.read.TreeFault.TheVariants as tree
 use Rattle.cat_types.specs.Reference.{parsed, text_at}
 use Rattle.cat_types.specs.declared.fault.RefFault.{RefFault}
-use Rattle.cat_table.specs.Table.{Text}
+use Rattle.cat_collections.specs.Table.{Text}
 use Rattle.cat_inputs.specs.Body.{and_then, onto}
 use Rattle.cat_inputs.specs.Reading.{tree_reading}
 use Rattle.cat_feed.specs.declared.change.Change.{Change}

@@ -1,8 +1,8 @@
 -- What a walk over documents has still to meet.
 use Rattle.std.specs.Prelude.{[], ◌∷◌, Option, None, Some, option_map}
 use Rattle.cat_tree.specs.Data.{Data}
-use Rattle.cat_table.specs.Left.{items_left}
-use Rattle.cat_table.specs.Table.{Text}
+use Rattle.cat_collections.specs.Left.{items_left}
+use Rattle.cat_collections.specs.Table.{Text}
 use Rattle.cat_feed.specs.Changes.{Documents}
 use Rattle.cat_feed.specs.declared.differences.Rest.{Rest}
 

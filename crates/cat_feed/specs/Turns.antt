@@ -1,7 +1,7 @@
 -- Runs of asks to one feed, of a mirror and of others.
 use Rattle.std.specs.Prelude.{◌≡◌, List, [], ◌∷◌, IsTrue, Option, Result, Ok, Err}
 use Rattle.std.specs.FinMap.Entries.{is_sorted}
-use Rattle.cat_table.specs.Table.{text_cmp}
+use Rattle.cat_collections.specs.Table.{text_cmp}
 use Rattle.cat_feed.specs.Changes.{Documents}
 use Rattle.cat_feed.specs.Feed.{asked, feed_after}
 use Rattle.cat_feed.specs.declared.change.Changes.{Changes}

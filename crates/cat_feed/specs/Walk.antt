@@ -3,7 +3,7 @@ use Rattle.std.specs.Prelude.{List, [], ◌∷◌, ◌++◌, None, Some, if◌th
 use Rattle.std.specs.FinMap.Entries.{by_order}
 use Rattle.cat_tree.specs.Data.{Data}
 use Rattle.cat_tree.specs.Same.{is_same}
-use Rattle.cat_table.specs.Table.{Text, text_cmp}
+use Rattle.cat_collections.specs.Table.{Text, text_cmp}
 use Rattle.cat_feed.specs.Changes.{Difference, Documents, sets}
 
 -- the new document, unless it is the old one

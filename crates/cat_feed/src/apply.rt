@@ -3,8 +3,8 @@ ghost use Rattle.std.specs.Prelude.{◌≡◌, IfOk, OnOk};
 ghost use Rattle.cat_feed.specs.Changes.{applied, with_set};
 
 use crate::change::Change;
-use cat_table::listing::Copied;
-use cat_table::map::Map;
+use cat_collections::listing::Copied;
+use cat_collections::map::Map;
 use cat_types::node::Node;
 use cat_types::reference::Ref;
 use std::alloc::{AllocError, Global};

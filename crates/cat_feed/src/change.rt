@@ -1,7 +1,7 @@
 //! Changes of documents, and places among them.
 ghost use Rattle.std.specs.Prelude.{◌≡◌, IfOk, map};
 
-use cat_table::listing::{Copied, Listing};
+use cat_collections::listing::{Copied, Listing};
 use cat_types::node::Node;
 use cat_types::reference::Ref;
 use std::alloc::{AllocError, Global};

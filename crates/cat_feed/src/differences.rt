@@ -1,14 +1,14 @@
 //! What differs between a copy of documents and the documents, found in one walk over both.
 ghost use Rattle.std.specs.Prelude.{◌≡◌, ◌++◌, ◌∷◌, [], List, None, Some, IfOk, OnOk};
-ghost use Rattle.cat_table.specs.Left.{items_left};
+ghost use Rattle.cat_collections.specs.Left.{items_left};
 ghost use Rattle.cat_feed.specs.Changes.{Difference, Documents, differences, sets};
 ghost use Rattle.cat_feed.specs.Rest.{left};
 ghost use Rattle.cat_feed.specs.Walk.{unless_same, walked_at};
 
-use cat_table::key::Key;
-use cat_table::listing::Copied;
-use cat_table::map::Map;
-use cat_table::tree::Items;
+use cat_collections::key::Key;
+use cat_collections::listing::Copied;
+use cat_collections::map::Map;
+use cat_collections::tree::Items;
 use cat_types::node::Node;
 use cat_types::reference::Ref;
 use std::alloc::{AllocError, Global};

@@ -1,7 +1,7 @@
 //! A feed of changes.
 ghost use Rattle.std.specs.Prelude.{◌≡◌, ◌≤◌, ◌⊎◌, [], ℕ, true, false, IfOk, IfErr, IsTrue, Err, Ok, Some, None, if◌then◌else◌};
 ghost use Rattle.std.specs.FinMap.Entries.{is_sorted};
-ghost use Rattle.cat_table.specs.Table.{text_cmp};
+ghost use Rattle.cat_collections.specs.Table.{text_cmp};
 ghost use Rattle.cat_feed.specs.Changes.{Documents, applied};
 ghost use Rattle.cat_feed.specs.Feed.{Follows, IsKept, asked, begun, is_spent, is_taken, least, taken_in};
 ghost use Rattle.cat_feed.specs.declared.change.Since.{Since as Place};
@@ -10,8 +10,8 @@ use crate::change::{Changes, Since};
 use crate::differences::differences;
 use crate::fault::FeedFault;
 use crate::ledger::{Ledger, answer, with_changes};
-use cat_table::listing::Listing;
-use cat_table::map::Map;
+use cat_collections::listing::Listing;
+use cat_collections::map::Map;
 use cat_types::node::Node;
 use cat_types::reference::Ref;
 use std::alloc::Global;

@@ -12,8 +12,8 @@
 //! place and nothing changes; and a mirror that asks a feed from where it is, and applies what is answered, has after each answer just the
 //! documents of that time, whoever else asks meanwhile.
 //!
-//! It stands on cat_table for the shared map that is the copy, on cat_types and cat_tree for references and shared trees, on cat_inputs and
-//! cat_commands for the reading of trees and numbers, and on cat_query for what appends trees.
+//! It stands on cat_collections for the shared map that is the copy, on cat_types and cat_tree for references and shared trees, on cat_inputs and
+//! cat_session_lines for the reading of trees and numbers, and on cat_query for what appends trees.
 #![tactic(auto)]
 
 pub mod apply;

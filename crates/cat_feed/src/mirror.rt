@@ -5,7 +5,7 @@ ghost use Rattle.cat_feed.specs.Mirror as spec;
 
 use crate::apply::applied;
 use crate::change::{Changes, Since};
-use cat_table::map::Map;
+use cat_collections::map::Map;
 use cat_types::node::Node;
 use cat_types::reference::Ref;
 use std::alloc::{AllocError, Global};

@@ -3,7 +3,7 @@ ghost use Rattle.std.specs.Prelude.{◌≡◌, ◌++◌, IfOk, OnOk, bytes_eq, d
 ghost use Rattle.cat_feed.specs.Place as spec;
 
 use crate::change::Since;
-use cat_commands::argument::number;
+use cat_session_lines::argument::number;
 use cat_tree::text::Text;
 use itoa::Buffer;
 use std::alloc::{AllocError, Global};

@@ -2,9 +2,9 @@
 use crate::fault::Fault;
 use cat_case::case::Case;
 use cat_case::shown::{push_number, push_texts};
-use cat_commands::line::Line;
-use cat_commands::read::read_line;
 use cat_query::ask::Ask;
+use cat_session_lines::line::Line;
+use cat_session_lines::read::read_line;
 use std::alloc::{AllocError, Global};
 
 // The question, and its text or its number.

@@ -1,10 +1,10 @@
 //! Why a case has no answer.
 use cat_case::shown::ShowFault;
-use cat_commands::fault::LineFault;
 use cat_inputs::fault::{InputFault, ShelfFault};
 use cat_query::facets::FacetFault;
 use cat_query::fault::QueryFault;
 use cat_search::condition::FilterFault;
+use cat_session_lines::fault::LineFault;
 use cat_target::target::TargetFault;
 use cat_tree::read::TreeFault;
 use cat_types::fault::RefFault;

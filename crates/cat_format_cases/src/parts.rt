@@ -2,11 +2,11 @@
 use crate::fault::Fault;
 use cat_case::case::Case;
 use cat_case::shown::{push_json, push_word};
+use cat_collections::listing::Listing;
 use cat_stitch::document::document;
 use cat_stitch::issues::{issue_items, issue_name_text, level_text};
 use cat_stitch::make::{empty_map, with_words};
 use cat_stitch::uid::uid;
-use cat_table::listing::Listing;
 use cat_tree::text::Text;
 use cat_tree::tree::Tree;
 use cat_types::issue::{Issue, IssueName, Level};

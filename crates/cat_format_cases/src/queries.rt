@@ -2,6 +2,7 @@
 use crate::fault::Fault;
 use cat_case::case::Case;
 use cat_case::shown::{push_bytes, push_counted, push_gap, push_json};
+use cat_collections::map::Map;
 use cat_pages::page::Page;
 use cat_pages::paging::page;
 use cat_pages::query::{Cursor, Query};
@@ -10,7 +11,6 @@ use cat_query::cursor::write_cursor;
 use cat_query::facets::facets;
 use cat_query::project::project;
 use cat_query::read::read_query;
-use cat_table::map::Map;
 use cat_tree::clone::copy;
 use cat_tree::tree::Tree;
 use cat_types::node::Node;

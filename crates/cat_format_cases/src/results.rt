@@ -2,10 +2,10 @@
 use crate::fault::Fault;
 use cat_case::case::Case;
 use cat_case::shown::{push_json, push_number, push_texts};
+use cat_collections::listing::Listing;
+use cat_collections::map::Map;
 use cat_process::contents::{contents, wanted};
 use cat_process::result::result;
-use cat_table::listing::Listing;
-use cat_table::map::Map;
 use cat_tree::text::Text;
 use cat_tree::tree::Tree;
 use cat_types::input::Offered;

@@ -8,7 +8,7 @@ use Rattle.cat_tree.specs.Data.{Data, null, flag, whole, words, list, dict, Item
 use Rattle.cat_tree.specs.Proper.{IsNarrow, ItemsNarrow, MembersNarrow}
 use Rattle.cat_types.specs.Reference.{described, text_in}
 use Rattle.cat_types.specs.declared.fault.RefFault.{RefFault}
-use Rattle.cat_table.specs.Table.{Text}
+use Rattle.cat_collections.specs.Table.{Text}
 use Rattle.cat_types.specs.declared.input.Item.{Item}
 use Rattle.cat_types.specs.declared.input.Mutation.{Mutation}
 use Rattle.cat_inputs.specs.declared.fault.InputFault.{InputFault}

@@ -6,7 +6,7 @@ use Rattle.cat_tree.specs.Data.{Data}
 use Rattle.cat_tree.specs.declared.read.TreeFault.{TreeFault}
 use Rattle.cat_types.specs.Reference.{described, parsed}
 use Rattle.cat_types.specs.declared.fault.RefFault.{RefFault}
-use Rattle.cat_table.specs.Table.{Text}
+use Rattle.cat_collections.specs.Table.{Text}
 use Rattle.cat_types.specs.declared.input.Item.{Item}
 use Rattle.cat_types.specs.declared.input.Mutation.{Mutation}
 use Rattle.cat_types.specs.declared.input.Mutation.TheVariants as mutation

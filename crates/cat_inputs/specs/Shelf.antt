@@ -4,7 +4,7 @@ use Rattle.cat_tree.specs.Data.{Data, null, flag, whole, words, list, dict, Item
 use Rattle.cat_tree.specs.declared.read.TreeFault.{TreeFault}
 use Rattle.cat_types.specs.Reference.{described, is_map}
 use Rattle.cat_types.specs.declared.fault.RefFault.{RefFault}
-use Rattle.cat_table.specs.Table.{Text}
+use Rattle.cat_collections.specs.Table.{Text}
 use Rattle.cat_inputs.specs.declared.fault.ShelfFault.{ShelfFault}
 use Rattle.cat_inputs.specs.declared.fault.ShelfFault.TheVariants.{Shape, Deep}
 use Rattle.cat_inputs.specs.declared.shelf.Listed.{Listed}

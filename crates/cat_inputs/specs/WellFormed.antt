@@ -4,7 +4,7 @@ use Rattle.std.specs.List.{list_any, AllByRecursion}
 use Rattle.cat_tree.specs.Ask.{depth_of}
 use Rattle.cat_tree.specs.Proper.{IsNarrow}
 use Rattle.cat_types.specs.Reference.{described}
-use Rattle.cat_table.specs.Table.{Text}
+use Rattle.cat_collections.specs.Table.{Text}
 use Rattle.cat_types.specs.declared.input.Item.{Item}
 use Rattle.cat_types.specs.declared.input.Mutation.{Mutation}
 use Rattle.cat_types.specs.declared.input.Mutation.TheVariants.{Full, Delta}

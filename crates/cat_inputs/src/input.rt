@@ -11,7 +11,7 @@ use crate::fault::{InputFault, json_fault};
 use crate::form::Form;
 use crate::refs::{first_deep, items_of, refs_of, repeated};
 use crate::text::read_tree;
-use cat_table::listing::Listing;
+use cat_collections::listing::Listing;
 use cat_tree::tree::Tree;
 use cat_types::input::{Item, Mutation};
 use cat_types::reference::Ref;

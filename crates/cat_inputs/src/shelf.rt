@@ -9,7 +9,7 @@ ghost use Rattle.cat_inputs.specs.Shelf as spec;
 use crate::fault::{ShelfFault, text_fault, unlisted};
 use crate::refs::is_deep;
 use crate::text::read_text;
-use cat_table::listing::Listing;
+use cat_collections::listing::Listing;
 use cat_tree::clone::copy;
 use cat_tree::tree::Tree;
 use cat_types::node::Node;

@@ -8,9 +8,9 @@ ghost use Rattle.cat_keeper.specs.Store.{Changes};
 ghost use Rattle.cat_journal.specs.Batches.{change_data, batch_data, batch_text, IsText};
 ghost use Rattle.cat_journal.specs.Parsed as parsed;
 
+use cat_collections::map::rise;
 use cat_keeper::rows::{Batch, Change};
 use cat_keeper::table::Table;
-use cat_table::map::rise;
 use cat_tree::read::{TreeFault, read};
 use cat_tree::text::Text;
 use cat_tree::tree::{Tree, Trees};

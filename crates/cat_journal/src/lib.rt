@@ -10,7 +10,7 @@
 //! write says what every crash in it may leave; and a `JournalKeeper` keeps the promise of every keeper, over any disk. Where the
 //! disk tells its content, the keeper tells the rows of the records before the gate byte that it found.
 //!
-//! The crate stands on cat_disk, whose disks tell what a crash may leave, on cat_keeper, cat_table, cat_types and cat_tree, whose
+//! The crate stands on cat_disk, whose disks tell what a crash may leave, on cat_keeper, cat_collections, cat_types and cat_tree, whose
 //! batches, maps, texts and trees it writes and reads, on cat_io, whose counts of faults it uses, and on serde_json, by whose reading
 //! it says what a body is.
 #![tactic(auto)]

@@ -7,8 +7,8 @@ ghost use Rattle.cat_journal.specs.Parsed.{batch_of};
 ghost use Rattle.cat_journal.specs.declared.records.Scanned.{Scanned};
 
 use crate::body::{BodyFault, Entry, changes, push_batch};
+use cat_collections::map::Map;
 use cat_keeper::rows::{Batch, Change, StoredRows};
-use cat_table::map::Map;
 use std::alloc::{AllocError, Global};
 
 /// What a journal begins with.

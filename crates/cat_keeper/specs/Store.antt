@@ -1,9 +1,9 @@
 -- What a store holds, and what a batch makes of it.
 use Rattle.std.specs.Prelude.{List, [], ◌∷◌}
 use Rattle.std.specs.declared.cmp.Ordering.{Ordering}
-use Rattle.cat_table.specs.Pairs.{pair_cmp}
-use Rattle.cat_table.specs.Rows.{without}
-use Rattle.cat_table.specs.Table.{Text, text_cmp, put}
+use Rattle.cat_collections.specs.Pairs.{pair_cmp}
+use Rattle.cat_collections.specs.Rows.{without}
+use Rattle.cat_collections.specs.Table.{Text, text_cmp, put}
 use Rattle.cat_keeper.specs.Tables.{table_cmp}
 use Rattle.cat_keeper.specs.declared.table.Table.{Table}
 use Rattle.cat_keeper.specs.declared.rows.Change.{Change}

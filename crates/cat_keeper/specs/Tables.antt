@@ -4,7 +4,7 @@ use Rattle.std.specs.declared.cmp.Ordering.{Ordering}
 use Rattle.std.specs.Cmp.{IsTotalOrder, nat_cmp_total, on_total}
 use Rattle.std.specs.FinMap.{IsAntisymmetric, nat_cmp-IsAntisymmetric}
 use Rattle.std.specs.Ordering.{nat_cmp}
-use Rattle.cat_table.specs.Table.{Text}
+use Rattle.cat_collections.specs.Table.{Text}
 use Rattle.cat_keeper.specs.declared.table.Table.{Table}
 use Rattle.cat_keeper.specs.declared.table.Table.TheVariants.{Counters, Providers, Items, Shelf, Records, Orphans, Settings, Trees}
 use mathlib.Core.Path.{ap, sym, ◌∙◌}

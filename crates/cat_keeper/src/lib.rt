@@ -6,7 +6,7 @@
 //! promise what is kept, and that it speaks of a fault only where one was counted. `MemoryKeeper` tells its rows, and fails on
 //! demand.
 //!
-//! What the texts of rows say isn't known here. The crate stands on cat_tree and cat_table, whose texts and maps are keys,
+//! What the texts of rows say isn't known here. The crate stands on cat_tree and cat_collections, whose texts and maps are keys,
 //! values and rows, and on cat_io, whose counts of calls and faults it uses.
 #![tactic(auto)]
 

@@ -3,8 +3,8 @@ ghost use Rattle.std.specs.Prelude.{◌≡◌, if◌then◌else◌, is_ok, IfOk}
 ghost use Rattle.cat_keeper.specs.Store.{applied, changed};
 
 use crate::table::Table;
-use cat_table::listing::Copied;
-use cat_table::map::Map;
+use cat_collections::listing::Copied;
+use cat_collections::map::Map;
 use cat_tree::text::Text;
 use std::alloc::{AllocError, Global};
 

@@ -2,8 +2,8 @@
 ghost use Rattle.std.specs.Prelude.{◌≡◌, ◌≢◌, MatchOption};
 ghost use Rattle.cat_keeper.specs.Tables.{table_antisymmetric, table_cmp, table_name, table_number, table_total};
 
-use cat_table::key::Key;
-use cat_table::listing::Copied;
+use cat_collections::key::Key;
+use cat_collections::listing::Copied;
 use std::alloc::{AllocError, Global};
 use std::cmp::Ordering;
 

@@ -10,7 +10,7 @@ use denote.Ref.{Bor}
 use Rattle.cat_types.specs.Relation.{relation_cmp}
 pub use Rattle.cat_types.specs.Relations.{relation_total, relation_antisymmetric}
 use Rattle.cat_types.specs.declared.relation.Relation.{Relation}
-use Rattle.cat_table.proofs.Orders as general
+use Rattle.cat_collections.proofs.Orders as general
 use Rattle.cat_kinds.specs.Kinds.{in_order}
 
 abbrev pub same : Relation → Relation → Bool

@@ -10,11 +10,11 @@ use Rattle.cat_tree.specs.Data.{Data, null, flag, whole, words, list, dict, Item
 use Rattle.cat_tree.specs.Ask.{child_of}
 use Rattle.cat_types.specs.Reference.{text_in}
 use Rattle.cat_types.specs.declared.fault.RefFault.{RefFault}
-use Rattle.cat_table.specs.Table.{Text}
+use Rattle.cat_collections.specs.Table.{Text}
 use Rattle.cat_types.specs.declared.relation.Relation.{Relation}
 use Rattle.cat_types.specs.declared.relation.RelKind.{RelKind}
 use Rattle.cat_types.specs.declared.relation.RelKind.TheVariants.{OwnedBy, OwnerOf, PartOf, HasPart, ProvidesApi, ApiProvidedBy, ConsumesApi, ApiConsumedBy, DependsOn, DependencyOf, ChildOf, ParentOf, HasMember, MemberOf}
-use Rattle.cat_table.proofs.Tables.{same_is, same_self, or_true}
+use Rattle.cat_collections.proofs.Tables.{same_is, same_self, or_true}
 use Rattle.cat_schema.specs.Fields.{FieldRow, field_rows}
 use Rattle.cat_schema.specs.Rules.{kind_of}
 use Rattle.cat_kinds.specs.Mentions.{Mention, fits, as_mention, mention, mentions_among, listed, mentions_at, mentions_in, mentions_by, mentions_by_each, mentions}

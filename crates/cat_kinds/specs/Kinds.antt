@@ -5,7 +5,7 @@ use Rattle.cat_tree.specs.Data.{Data}
 use Rattle.cat_tree.specs.Ask.{child_of}
 use Rattle.cat_types.specs.Reference.{text_at, parsed}
 use Rattle.cat_types.specs.declared.fault.RefFault.{RefFault}
-use Rattle.cat_table.specs.Table.{Text, keys, tabulate}
+use Rattle.cat_collections.specs.Table.{Text, keys, tabulate}
 use Rattle.cat_types.specs.Relation.{relation_cmp}
 use Rattle.cat_types.specs.declared.relation.Relation.{Relation}
 use Rattle.cat_types.specs.declared.relation.RelKind.{RelKind}

@@ -4,7 +4,7 @@ use Rattle.std.specs.Option.{option_map_or}
 use Rattle.cat_tree.specs.Data.{Data, null, flag, whole, words, list, dict, Items, no_items, item}
 use Rattle.cat_tree.specs.Ask.{child_of}
 use Rattle.cat_types.specs.Reference.{text_in}
-use Rattle.cat_table.specs.Table.{Text}
+use Rattle.cat_collections.specs.Table.{Text}
 use Rattle.cat_schema.specs.Fields.{FieldRow, field_rows, row_of, has_field}
 use Rattle.cat_schema.specs.Rules.{kind_of}
 use Rattle.cat_schema.specs.declared.kind.Kind.{Kind}

@@ -5,7 +5,7 @@ ghost use Rattle.cat_kinds.specs.Mentions.{mention_of};
 ghost use Rattle.cat_kinds.specs.Kinds as spec;
 
 use crate::mention::{Mention, mentions};
-use cat_table::listing::Listing;
+use cat_collections::listing::Listing;
 use cat_tree::ask::grandchild;
 use cat_tree::text::Text;
 use cat_tree::tree::Tree;

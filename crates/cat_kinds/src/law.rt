@@ -4,7 +4,7 @@ ghost use Rattle.std.specs.List.{Contains};
 ghost use Rattle.std.specs.List.Sorted.{IsStrictlySortedBy};
 ghost use Rattle.cat_types.specs.Relation.{relation_cmp};
 ghost use Rattle.cat_tree.specs.Data.{Data};
-ghost use Rattle.cat_table.specs.Table.{Text};
+ghost use Rattle.cat_collections.specs.Table.{Text};
 ghost use Rattle.cat_types.specs.declared.relation.RelKind.{RelKind as Kind};
 ghost use Rattle.cat_types.specs.declared.relation.Relation.{Relation};
 ghost use Rattle.cat_kinds.specs.Kinds.{namespace_of, relations_of, reverse, reversed, stated_by};

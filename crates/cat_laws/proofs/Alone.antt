@@ -8,8 +8,8 @@ use Rattle.std.specs.List.{list_any, filter}
 use Rattle.std.specs.Cmp.{nat_cmp_total}
 use Rattle.std.specs.FinMap.{nat_cmp-IsAntisymmetric}
 use Rattle.std.specs.FinMap.Entries.{is_some-find, is_sorted, is_sorted-put, same_entries, below_all}
-use Rattle.cat_table.specs.Table.{Map, text_cmp, same_text, first, get, keys, over, place, put, puts, tabulate}
-use Rattle.cat_table.proofs.Tables.{text_total, text_antisymmetric, and_first, any_filter, cond_none, find-over, find-put_other, find-put_same, find-tabulate, find-tabulate_all, found_key, is_sorted-tabulate, list_any-append, or_false_first, or_false_second, or_true, same_is, same_self}
+use Rattle.cat_collections.specs.Table.{Map, text_cmp, same_text, first, get, keys, over, place, put, puts, tabulate}
+use Rattle.cat_collections.proofs.Tables.{text_total, text_antisymmetric, and_first, any_filter, cond_none, find-over, find-put_other, find-put_same, find-tabulate, find-tabulate_all, found_key, is_sorted-tabulate, list_any-append, or_false_first, or_false_second, or_true, same_is, same_self}
 use Rattle.cat_types.specs.declared.parts.Parts.{Parts}
 use Rattle.cat_types.specs.declared.relation.Relation.{Relation}
 use Rattle.cat_types.specs.declared.work.Output.{Output}

@@ -7,7 +7,7 @@ use Rattle.std.proofs.lemmas.Bool.Decides.{nat_tests}
 use Rattle.std.specs.Option.{option_and_then, option_map}
 use Rattle.std.specs.List.{filter}
 use Rattle.cat_types.specs.declared.parts.Parts.{Parts}
-use Rattle.cat_table.proofs.Tables.{find-put_same, or_true, some_or_none, same_is}
+use Rattle.cat_collections.proofs.Tables.{find-put_same, or_true, some_or_none, same_is}
 use Rattle.cat_model.specs.declared.types.Row.{Row}
 use Rattle.cat_model.specs.declared.types.Settings.{Settings}
 use Rattle.cat_model.specs.Catalogue.{Rules, parts, row_at, work, work_of}
@@ -16,8 +16,8 @@ use Rattle.cat_model.specs.Settle.{by_ticket, marks_in_order, order, order_with,
 use Rattle.cat_model.specs.Step.{due_at, earlier, earliest, leased, may_take, next_taken, take, take_next}
 use Rattle.cat_model.specs.Reply.{mark_above, next_mark, next_stitch, taken, TakesNoLater, StitchesNoLater}
 use Rattle.cat_laws.proofs.Settled.{any_in_order}
-use Rattle.cat_table.specs.Table.{Map, get, keys, same_text}
-use Rattle.cat_table.proofs.Tables.{text_total, text_antisymmetric, found_key, same_self}
+use Rattle.cat_collections.specs.Table.{Map, get, keys, same_text}
+use Rattle.cat_collections.proofs.Tables.{text_total, text_antisymmetric, found_key, same_self}
 use Rattle.cat_model.specs.declared.types.Record.{Record}
 use Rattle.cat_model.specs.declared.types.State.{State}
 use Rattle.cat_model.specs.Catalogue.{Ref}

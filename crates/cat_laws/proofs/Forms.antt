@@ -9,7 +9,7 @@ use Rattle.std.specs.List.{list_any}
 use Rattle.std.specs.FinMap.Entries.{is_sorted, is_sorted-put}
 use Rattle.std.specs.Cmp.{nat_cmp_total}
 use Rattle.std.specs.FinMap.{nat_cmp-IsAntisymmetric}
-use Rattle.cat_table.specs.Table.{Text, Map, same_text, text_cmp, get, keys, put, over, place}
+use Rattle.cat_collections.specs.Table.{Text, Map, same_text, text_cmp, get, keys, put, over, place}
 use Rattle.cat_types.specs.declared.input.Offered.{Offered}
 use Rattle.cat_types.specs.declared.issue.Issue.{Issue}
 use Rattle.cat_types.specs.declared.parts.Parts.{Parts}
@@ -17,7 +17,7 @@ use Rattle.cat_types.specs.declared.work.Output.{Output}
 use Rattle.cat_types.specs.declared.work.Outcome.{Outcome}
 use Rattle.cat_types.specs.declared.work.Work.{Work}
 use Rattle.cat_types.specs.declared.work.Outcome.TheVariants.{Good, Bad}
-use Rattle.cat_table.proofs.Tables.{text_total, text_antisymmetric, same_is, and_second, find-put_same, find-put_other, find-tabulate, find-over, is_sorted-tabulate}
+use Rattle.cat_collections.proofs.Tables.{text_total, text_antisymmetric, same_is, and_second, find-put_same, find-put_other, find-tabulate, find-over, is_sorted-tabulate}
 use Rattle.cat_model.specs.declared.types.State.{State}
 use Rattle.cat_model.specs.declared.types.Record.{Record}
 use Rattle.cat_model.specs.declared.types.Orphan.{Orphan}

@@ -6,7 +6,7 @@ use Rattle.std.specs.declared.option.Option.{Option}
 use Rattle.std.specs.declared.option.Option.TheVariants.{None, Some}
 use Rattle.std.specs.Option.{option_and_then, option_map}
 use Rattle.std.specs.List.{list_any}
-use Rattle.cat_table.specs.Table.{Text, get, keys, same_text}
+use Rattle.cat_collections.specs.Table.{Text, get, keys, same_text}
 use Rattle.cat_model.specs.Catalogue.{Ref, Tree, Rules, held, row_at, holding, work_of, climbs_row, climbs_origin, climbs, work, output_of, parts, parts_from, records_emit, parts_of_record, parts_of_orphan, emitted, from_source}
 use Rattle.cat_types.specs.declared.input.Offered.{Offered}
 use Rattle.cat_types.specs.declared.work.Output.{Output}
@@ -22,7 +22,7 @@ use Rattle.cat_types.specs.declared.work.Outcome.TheVariants.{Good, Bad}
 use Rattle.cat_model.specs.declared.types.Origin.TheVariants.{Provider, Entity}
 use Rattle.cat_model.specs.Sound.{offered, Sound, Quiet, IsRight, IsOutcome, IsStitched}
 use Rattle.cat_model.specs.Fresh.{Claim, claim_of, claimed_tree, Facts, with_key, tree_from, fresh_work, good_output, issues_of, fresh_output, fresh_outputs, fresh_parts, fresh_doc, bad_output, number_at, facts_of, fresh_offered, IsOffered, Complete, fresh_docs, unless_orphan, entity_docs, IsFresh}
-use Rattle.cat_table.proofs.Tables.{some_or_none, none_or_some, text_total, text_antisymmetric, same_self, same_tabulated, find-over, find-tabulate_all, no_key}
+use Rattle.cat_collections.proofs.Tables.{some_or_none, none_or_some, text_total, text_antisymmetric, same_self, same_tabulated, find-over, find-tabulate_all, no_key}
 
 module _ (rules : Rules) (m : State) where
   abbrev facts : Facts

@@ -4,8 +4,8 @@ use Rattle.std.specs.declared.option.Option.{Option}
 use Rattle.std.specs.declared.option.Option.TheVariants.{None, Some}
 use Rattle.std.specs.Option.{option_and_then}
 use Rattle.std.specs.FinMap.Entries.{is_sorted, is_sorted-put}
-use Rattle.cat_table.specs.Table.{Map, get, keys, over, place, put, same_text, text_cmp}
-use Rattle.cat_table.proofs.Tables.{is_sorted-tabulate, text_total, text_antisymmetric}
+use Rattle.cat_collections.specs.Table.{Map, get, keys, over, place, put, same_text, text_cmp}
+use Rattle.cat_collections.proofs.Tables.{is_sorted-tabulate, text_total, text_antisymmetric}
 use Rattle.cat_model.specs.declared.types.Order.{Order}
 use Rattle.cat_model.specs.declared.types.Record.{Record}
 use Rattle.cat_model.specs.declared.types.State.{State}

@@ -5,8 +5,8 @@ use Rattle.std.specs.declared.option.Option.TheVariants.{None, Some}
 use Rattle.std.specs.Option.{option_and_then}
 use Rattle.std.specs.List.{list_any}
 use Rattle.std.specs.FinMap.Entries.{same_entries}
-use Rattle.cat_table.specs.Table.{Map, Text, get, keys, same_text, text_cmp, find, put}
-use Rattle.cat_table.proofs.Tables.{find-over, find-tabulate, is_sorted-tabulate, same_self, text_antisymmetric, text_total}
+use Rattle.cat_collections.specs.Table.{Map, Text, get, keys, same_text, text_cmp, find, put}
+use Rattle.cat_collections.proofs.Tables.{find-over, find-tabulate, is_sorted-tabulate, same_self, text_antisymmetric, text_total}
 use Rattle.cat_model.specs.declared.types.Leaving.TheVariants.{Deleted}
 use Rattle.cat_model.specs.declared.types.Order.{Order}
 use Rattle.cat_model.specs.declared.types.Orphan.{Orphan}

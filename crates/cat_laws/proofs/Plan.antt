@@ -3,8 +3,8 @@ use Rattle.std.proofs.Common.{◌≡◌, ℕ, zero, suc, ◌+◌, Bool, true, fa
 use Rattle.std.specs.declared.option.Option.{Option}
 use Rattle.std.specs.declared.option.Option.TheVariants.{None, Some}
 use Rattle.std.specs.Option.{option_map}
-use Rattle.cat_table.specs.Table.{get}
-use Rattle.cat_table.proofs.Tables.{text_total, text_antisymmetric, find-put_same}
+use Rattle.cat_collections.specs.Table.{get}
+use Rattle.cat_collections.proofs.Tables.{text_total, text_antisymmetric, find-put_same}
 use Rattle.cat_model.specs.declared.types.State.{State}
 use Rattle.cat_model.specs.declared.types.Record.{Record}
 use Rattle.cat_model.specs.declared.types.Settings.{Settings}

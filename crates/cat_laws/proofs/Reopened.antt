@@ -3,7 +3,7 @@ use Rattle.std.proofs.Common.{◌≡◌, ℕ, inr, refl, sym, ap, subst, ◌∙�
 use Rattle.std.specs.declared.option.Option.{Option}
 use Rattle.std.specs.declared.option.Option.TheVariants.{None, Some}
 use Rattle.std.specs.Option.{option_and_then, option_map}
-use Rattle.cat_table.specs.Table.{get, keys}
+use Rattle.cat_collections.specs.Table.{get, keys}
 use mathlib.Core.Path.{fun_ext}
 use Rattle.cat_model.specs.Catalogue.{Ref, Rules, work, output_of, parts, parts_from, records_emit, emitted, known_refs, due_now}
 use Rattle.cat_types.specs.declared.work.Output.{Output}
@@ -14,7 +14,7 @@ use Rattle.cat_model.specs.declared.types.State.{State}
 use Rattle.cat_model.specs.declared.types.Origin.TheVariants.{Provider, Entity}
 use Rattle.cat_model.specs.Sound.{offered, Sound, IsStitched, number_in}
 use Rattle.cat_model.specs.Step.{reopened}
-use Rattle.cat_table.proofs.Tables.{text_total, text_antisymmetric, find-over, find-tabulate_all, is_sorted-tabulate}
+use Rattle.cat_collections.proofs.Tables.{text_total, text_antisymmetric, find-over, find-tabulate_all, is_sorted-tabulate}
 use Rattle.cat_model.proofs.Frame.{right_at_once, unknown}
 use Rattle.cat_laws.proofs.Steps.{numbers_from}
 

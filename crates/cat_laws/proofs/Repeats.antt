@@ -3,8 +3,8 @@ use Rattle.std.proofs.Common.{◌≡◌, ℕ, ◌≤◌, Bool, true, false, cond
 use Rattle.std.specs.declared.option.Option.{Option}
 use Rattle.std.specs.declared.option.Option.TheVariants.{None, Some}
 use Rattle.std.proofs.lemmas.Bool.Decides.{nat_tests}
-use Rattle.cat_table.specs.Table.{Text, same_text, text_cmp, get, put}
-use Rattle.cat_table.proofs.Tables.{text_total, text_antisymmetric, same_is, find-put_same, find-put_other}
+use Rattle.cat_collections.specs.Table.{Text, same_text, text_cmp, get, put}
+use Rattle.cat_collections.proofs.Tables.{text_total, text_antisymmetric, same_is, find-put_same, find-put_other}
 use Rattle.cat_model.specs.declared.types.State.{State}
 use Rattle.cat_model.specs.declared.types.Record.{Record}
 use Rattle.cat_model.specs.declared.types.Settings.{Settings}

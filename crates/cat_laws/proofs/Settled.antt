@@ -8,7 +8,7 @@ use Rattle.std.specs.List.{list_any, filter}
 use Rattle.std.proofs.lemmas.Bool.Decides.{nat_tests}
 use Rattle.std.specs.FinMap.Entries.{is_some-find}
 use Rattle.std.proofs.lemmas.List.{length-map}
-use Rattle.cat_table.specs.Table.{Text, text_cmp, same_text, Map, get, keys, put, tabulate}
+use Rattle.cat_collections.specs.Table.{Text, text_cmp, same_text, Map, get, keys, put, tabulate}
 use Rattle.cat_model.specs.Catalogue.{Ref, Rules, Rows, Holders, held, row_at, holding, climbs, climbs_row, climbs_origin, work, work_of, parts, same_option, frame}
 use Rattle.cat_types.specs.declared.input.Offered.{Offered}
 use Rattle.cat_types.specs.declared.work.Output.{Output}
@@ -31,7 +31,7 @@ use Rattle.cat_model.specs.declared.types.StitchOrder.{StitchOrder}
 use Rattle.cat_model.specs.Settle.{is_due, order, order_with, due_refs, stitch_order, insert_mark, marks_in_order, by_ticket, IsSettled, width_refs, width}
 use Rattle.cat_laws.proofs.Rounds.{finish_order, take_and_finish, turn, turns, round, rounds, stitch, stitch_with, stitches, settle}
 use Rattle.cat_model.specs.Settle.IsSettled.{by_provider, by_entity}
-use Rattle.cat_table.proofs.Tables.{text_total, text_antisymmetric, same_is, same_self, some_or_none, cond_none, list_any-append, found_key, first_some, find-tabulate, or_true, find-put_same, find-put_other}
+use Rattle.cat_collections.proofs.Tables.{text_total, text_antisymmetric, same_is, same_self, some_or_none, cond_none, list_any-append, found_key, first_some, find-tabulate, or_true, find-put_same, find-put_other}
 use Rattle.cat_model.proofs.Frame.{IsChange, framed, record_stays}
 use Rattle.cat_model.proofs.Kept.{first_of_any, entries_within}
 use Rattle.cat_model.proofs.Holding as firm

@@ -6,7 +6,7 @@ use Rattle.std.specs.declared.option.Option.TheVariants.{None, Some}
 use Rattle.std.specs.Option.{option_and_then}
 use Rattle.std.specs.List.{list_any}
 use Rattle.std.specs.FinMap.Entries.{is_sorted-put}
-use Rattle.cat_table.specs.Table.{Text, text_cmp, same_text, Map, get, keys, put}
+use Rattle.cat_collections.specs.Table.{Text, text_cmp, same_text, Map, get, keys, put}
 use Rattle.cat_model.specs.Catalogue.{Ref, Issues, Shelf, Offers, Rules, held, row_at, work, output_of, parts, parts_from, records_emit, emitted, same_option}
 use Rattle.cat_types.specs.declared.input.Offered.{Offered}
 use Rattle.cat_types.specs.declared.work.Output.{Output}
@@ -34,7 +34,7 @@ use Rattle.cat_model.specs.declared.types.Fault.TheVariants.{Spent}
 use Rattle.cat_model.specs.declared.types.Counter.TheVariants.{Arrival, Number, Token}
 use Rattle.std.proofs.lemmas.Bool.Decides.{nat_tests}
 use Rattle.cat_model.specs.Step.Event.{Mutate, ShelfPut, ShelfDrop, Refresh, Forget, ForgetNumber, Take, TakeAt, Finish, PutStitch}
-use Rattle.cat_table.proofs.Tables.{text_total, text_antisymmetric, same_is, same_self, found_key, find-over, find-put_same, find-put_other, and_second}
+use Rattle.cat_collections.proofs.Tables.{text_total, text_antisymmetric, same_is, same_self, found_key, find-over, find-put_same, find-put_other, and_second}
 use Rattle.cat_model.proofs.Frame.{same_option-is, right_at_once, IsChange, framed}
 use Rattle.cat_model.proofs.Replaced.{AreOthers, kept_own, replaced_offers, other_rows, same_reference}
 

@@ -4,8 +4,8 @@ use Rattle.std.specs.declared.option.Option.{Option}
 use Rattle.std.specs.declared.option.Option.TheVariants.{None, Some}
 use Rattle.std.specs.Option.{option_and_then}
 use Rattle.std.proofs.lemmas.Bool.Decides.{nat_tests}
-use Rattle.cat_table.specs.Table.{Map, get, put, text_cmp}
-use Rattle.cat_table.proofs.Tables.{or_true}
+use Rattle.cat_collections.specs.Table.{Map, get, put, text_cmp}
+use Rattle.cat_collections.proofs.Tables.{or_true}
 use Rattle.cat_model.specs.declared.types.State.{State}
 use Rattle.cat_model.specs.declared.types.Record.{Record}
 use Rattle.cat_model.specs.declared.types.Lease.{Lease}

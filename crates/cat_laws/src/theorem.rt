@@ -14,7 +14,7 @@ ghost use Rattle.cat_model.specs.declared.types.Stop.TheVariants.{Refused};
 ghost use Rattle.cat_model.specs.Reply.{StitchesNoLater, TakesNoLater, is_quiet, next_mark, next_stitch, taken};
 ghost use Rattle.cat_model.specs.Settle.{HasEvents, IsRefusedBy, IsSettle, SettleMore, StaySettled, is_ended, not_begun, try_round, try_rounds, try_settle, width};
 ghost use Rattle.cat_model.specs.Sound.{AreBegun, AreNamed, AreOrdered, AreSmall, MakesNoOrphan, Quiet, Sound, rooted_holders};
-ghost use Rattle.cat_table.specs.Table.{Text, get, keys};
+ghost use Rattle.cat_collections.specs.Table.{Text, get, keys};
 ghost use Rattle.cat_model.specs.declared.types.Given.{Given};
 ghost use Rattle.cat_model.specs.Formed.{AreFormedEvents, FormRules, Formed, IsPartsOf, IsWorkOf};
 ghost use Rattle.cat_model.specs.Step.{Event, last_serial, may_take, next_taken, refusal, reopened, run, start, step};

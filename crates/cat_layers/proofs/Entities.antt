@@ -9,7 +9,7 @@ use Rattle.cat_tree.proofs.Edits.{child_of-with_key_other, member_at-put_same}
 use Rattle.cat_types.specs.Names.{is_namespace}
 use Rattle.cat_types.specs.Reference.{described, is_map, text_at, part_or, named_by, named_in}
 use Rattle.cat_types.specs.declared.fault.RefFault.TheVariants.{Shape}
-use Rattle.cat_table.specs.Table.{Text}
+use Rattle.cat_collections.specs.Table.{Text}
 use Rattle.cat_schema.specs.Faults.{below, unless, field, members, values, keys, member_fields}
 use Rattle.cat_schema.specs.Forms.{is_as, may_be_there}
 use Rattle.cat_schema.specs.Rules.{metadata, spec, rule_1, rule_2, rule_3, rule_4, rule_5, rule_6, rule_7, rule_8, rule_9, rule_10, rule_11, rule_12, rule_13, rule_14, rule_15, rule_16, rule_17, rule_18, of_metadata, of_map, of_kind, kind_of, of_root, breaches}

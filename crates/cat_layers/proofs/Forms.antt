@@ -9,7 +9,7 @@ use Rattle.cat_types.specs.Reference.{described}
 use Rattle.cat_types.specs.declared.fault.RefFault.{RefFault}
 use Rattle.cat_schema.specs.Rules.{breaches}
 use Rattle.cat_kinds.specs.Kinds.{kind_faults}
-use Rattle.cat_table.specs.Table.{Text}
+use Rattle.cat_collections.specs.Table.{Text}
 use Rattle.cat_types.specs.declared.input.Offered.{Offered}
 use Rattle.cat_inputs.specs.Body.{is_key}
 use Rattle.cat_layers.specs.Trees.{is_within}

@@ -13,7 +13,7 @@ use Rattle.cat_yaml.proofs.Narrowness.{items_narrow}
 use Rattle.cat_yaml.proofs.Proper.{documents_proper}
 use Rattle.cat_types.specs.Reference.{described, is_map}
 use Rattle.cat_types.specs.declared.fault.RefFault.{RefFault}
-use Rattle.cat_table.specs.Table.{Text}
+use Rattle.cat_collections.specs.Table.{Text}
 use Rattle.cat_inputs.specs.Body.{and_then, onto, each_from}
 use Rattle.cat_inputs.specs.Inputs.{is_deep, first_deep}
 use Rattle.cat_inputs.specs.Reading.{is_json, tree_reading, documents_tree, text_tree}

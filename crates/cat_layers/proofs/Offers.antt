@@ -9,9 +9,9 @@ use Rattle.cat_tree.proofs.Edits.{child_of-with_key_other}
 use Rattle.cat_types.specs.Names.{is_shelf_name}
 use Rattle.cat_types.specs.Reference.{described, is_map, text_at, part_or, named_by, named_in}
 use Rattle.cat_types.specs.declared.fault.RefFault.TheVariants.{Shape}
-use Rattle.cat_table.specs.Table.{Text, Map, same_text, get}
+use Rattle.cat_collections.specs.Table.{Text, Map, same_text, get}
 use Rattle.cat_types.specs.declared.input.Offered.{Offered}
-use Rattle.cat_table.proofs.Tables.{text_total, text_antisymmetric, same_is}
+use Rattle.cat_collections.proofs.Tables.{text_total, text_antisymmetric, same_is}
 use Rattle.cat_target.specs.Base.{Base}
 use Rattle.cat_target.specs.Location.{base_of, type_of, is_optional, target_texts}
 use Rattle.cat_target.specs.Resolve.{name_of}

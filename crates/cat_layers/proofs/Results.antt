@@ -2,7 +2,7 @@
 use Rattle.std.proofs.Common.{◌≡◌, ◌==◌, Bool, true, false, List, [], ◌∷◌, map, length, if◌then◌else◌, Some, refl, subst}
 use Rattle.std.specs.List.{AllByRecursion}
 use Rattle.cat_tree.specs.Data.{Data}
-use Rattle.cat_table.specs.Table.{Text, Map, get}
+use Rattle.cat_collections.specs.Table.{Text, Map, get}
 use Rattle.cat_types.specs.declared.input.Offered.{Offered}
 use Rattle.cat_types.specs.declared.issue.Issue.{Issue}
 use Rattle.cat_types.specs.declared.work.Output.{Output}

@@ -1,8 +1,8 @@
 -- How much input is stored.
 use Rattle.std.specs.Prelude.{ℕ, ◌+◌, ◌^◌, length, min}
 use Rattle.std.specs.List.{sum_by}
-use Rattle.cat_table.specs.Table.{Text, Map}
-use Rattle.cat_values.specs.Bytes.{item_bytes}
+use Rattle.cat_collections.specs.Table.{Text, Map}
+use Rattle.cat_state_parts.specs.Bytes.{item_bytes}
 use Rattle.cat_model.specs.declared.types.ProviderInputs.{ProviderInputs}
 
 -- the lengths of the compact texts of a provider's items

@@ -1,6 +1,6 @@
 -- The lower layers of the catalogue, as the abstract catalogue takes them.
 use Rattle.std.specs.Prelude.{List, []}
-use Rattle.cat_table.specs.Table.{Text}
+use Rattle.cat_collections.specs.Table.{Text}
 use Rattle.cat_types.specs.declared.relation.Relation.{Relation}
 use Rattle.cat_tree.specs.Data.{Data}
 use Rattle.cat_kinds.specs.Kinds.{answer_of}

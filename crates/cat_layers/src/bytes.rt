@@ -3,8 +3,8 @@ ghost use Rattle.std.specs.Prelude.{◌≡◌, ◌+◌, ◌^◌, ◌≤◌, min}
 ghost use Rattle.std.specs.List.{sum_by};
 ghost use Rattle.cat_layers.specs.Bytes.{entry_bytes, provider_bytes, stored_bytes};
 
+use cat_collections::map::Map;
 use cat_model::types::ProviderInputs;
-use cat_table::map::Map;
 use cat_tree::text::Text;
 
 /// Where the sum stands still.

@@ -3,7 +3,7 @@ ghost use Rattle.std.specs.Prelude.{◌≡◌, ◌↔◌, ℕ, List, true, Some}
 ghost use Rattle.cat_layers.specs.Forms.{IsOffer, IsProcessed, is_entity, is_item};
 ghost use Rattle.cat_process.specs.Process.{result_of, work_on};
 ghost use Rattle.cat_tree.specs.Data.{Data};
-ghost use Rattle.cat_table.specs.Table.{Map, Text, get};
+ghost use Rattle.cat_collections.specs.Table.{Map, Text, get};
 ghost use Rattle.cat_types.specs.declared.input.Offered.{Offered};
 ghost use Rattle.cat_types.specs.declared.issue.Issue.{Issue};
 ghost use Rattle.cat_types.specs.declared.work.Outcome.TheVariants.{Good};

@@ -3,14 +3,14 @@ ghost use Rattle.std.specs.Prelude.{◌≡◌, IfOk};
 ghost use Rattle.cat_layers.specs.Layered.{entity_relations, layered};
 
 use crate::bytes::stored_bytes;
-use cat_hold::layers::Layers;
+use cat_collections::listing::Listing;
+use cat_collections::map::Map;
 use cat_kinds::answer::KindAnswer;
 use cat_model::types::ProviderInputs;
+use cat_plan::layers::Layers;
 use cat_process::contents::contents;
 use cat_process::result::result;
 use cat_stitch::document::document;
-use cat_table::listing::Listing;
-use cat_table::map::Map;
 use cat_tree::text::Text;
 use cat_types::node::Node;
 use cat_types::parts::Parts;

@@ -9,7 +9,7 @@
 //!
 //! It stands on cat_tree and cat_types for trees and the references that they name, on cat_schema and cat_kinds for the rules of the descriptor
 //! format and the reference fields, on cat_inputs for what a shelf text lists, on cat_process and cat_stitch for results and documents, and on
-//! cat_model and cat_hold for what the catalogue asks of its layers.
+//! cat_model and cat_plan for what the catalogue asks of its layers.
 #![tactic(auto)]
 
 pub mod bytes;

@@ -4,17 +4,17 @@ use Rattle.std.specs.Ordering.{eq_by_cmp}
 use Rattle.std.specs.List.{filter, list_any, Contains}
 use Rattle.std.specs.FinMap.Entries.{is_sorted}
 use Rattle.std.proofs.lemmas.List.Folds.{list_any-append}
-use Rattle.cat_table.specs.Table.{Text, same_text, text_cmp}
+use Rattle.cat_collections.specs.Table.{Text, same_text, text_cmp}
 use Rattle.cat_types.specs.Relation.{relation_cmp}
 use Rattle.cat_types.specs.declared.relation.Relation.{Relation}
-use Rattle.cat_table.proofs.Tables.{text_total, text_antisymmetric, and_first, or_false_first, or_false_second, or_true, same_is, same_self}
-use Rattle.cat_table.specs.Order.{in_order}
+use Rattle.cat_collections.proofs.Tables.{text_total, text_antisymmetric, and_first, or_false_first, or_false_second, or_true, same_is, same_self}
+use Rattle.cat_collections.specs.Order.{in_order}
 use Rattle.cat_links.specs.Links.{Emitted, all_emitted, comes_or_goes, emitted_by, has, only_in, relations_of, sources}
 use Rattle.cat_links.specs.Counts.{emitters_of, one_if}
 use Rattle.cat_links.specs.declared.links.EmitChange.{EmitChange}
 use Rattle.cat_links.specs.Changes.{AreChanged, touched, with_changes, with_emitter}
 use Rattle.cat_links.proofs.Counted.{emitters-with_emitter, has_emitters, sorted-with_emitter}
-use Rattle.cat_table.proofs.Orders.{has-filter, contains_from_has, has-in_order, has_from_contains, in_order-rises, same_in_order}
+use Rattle.cat_collections.proofs.Orders.{has-filter, contains_from_has, has-in_order, has_from_contains, in_order-rises, same_in_order}
 use Rattle.cat_types.specs.Relations.{relation_total, relation_antisymmetric}
 
 -- ---- one change

@@ -11,15 +11,15 @@ use Rattle.std.proofs.lemmas.List.Folds.{list_any-append}
 use Rattle.std.proofs.lemmas.List.Kept.{IsStrictlySortedBy-filter}
 use Rattle.cat_types.specs.declared.relation.Relation.{Relation}
 use Rattle.cat_types.specs.Relation.{relation_cmp}
-use Rattle.cat_table.specs.Table.{Map, Text, find, keys, put, same_text, text_cmp}
-use Rattle.cat_table.proofs.Tables.{text_total, text_antisymmetric, same_is, same_self}
-use Rattle.cat_table.specs.Order.{in_order}
+use Rattle.cat_collections.specs.Table.{Map, Text, find, keys, put, same_text, text_cmp}
+use Rattle.cat_collections.proofs.Tables.{text_total, text_antisymmetric, same_is, same_self}
+use Rattle.cat_collections.specs.Order.{in_order}
 use Rattle.cat_links.specs.Links.{Emitted, all_emitted, emitted_by, has, only_in, relations_of}
 use Rattle.cat_links.specs.Changes.{with_emitter}
 use Rattle.cat_links.specs.Counts.{AreCounts, AreOfSource, Counts, SourceCounts, count_at, count_in, counts_from, emitters_of, gained, lost, one_if, one_less, one_less_in, one_more, one_more_in, with_counts}
-use Rattle.cat_table.specs.Rows.{without}
-use Rattle.cat_table.proofs.Orders.{has-filter, has-in_order, in_order-rises, in_order_is}
-use Rattle.cat_table.proofs.Placed.{from_T, rises, to_T}
+use Rattle.cat_collections.specs.Rows.{without}
+use Rattle.cat_collections.proofs.Orders.{has-filter, has-in_order, in_order-rises, in_order_is}
+use Rattle.cat_collections.proofs.Placed.{from_T, rises, to_T}
 use Rattle.cat_types.specs.Relations.{relation_total, relation_antisymmetric}
 
 abbrev same : Relation → Relation → Bool

@@ -2,8 +2,8 @@
 use Rattle.std.specs.Prelude.{◌≡◌, ◌≢◌, cond, List, [], ◌∷◌, ◌++◌}
 use Rattle.std.specs.List.{Contains}
 use Rattle.std.specs.List.Sorted.{IsStrictlySortedBy}
-use Rattle.cat_table.specs.Rows.{without}
-use Rattle.cat_table.specs.Table.{Text, put, text_cmp}
+use Rattle.cat_collections.specs.Rows.{without}
+use Rattle.cat_collections.specs.Table.{Text, put, text_cmp}
 use Rattle.cat_links.specs.declared.links.EmitChange.{EmitChange}
 use Rattle.cat_links.specs.Links.{Emitted, emitted_by, is_empty, only_in, relations_of}
 use Rattle.cat_types.specs.declared.relation.Relation.{Relation}

@@ -4,9 +4,9 @@ use Rattle.std.specs.declared.option.Option.TheVariants.{Some}
 use Rattle.std.specs.FinMap.Entries.{is_sorted}
 use Rattle.cat_types.specs.declared.relation.Relation.{Relation}
 use Rattle.cat_types.specs.Relation.{relation_cmp}
-use Rattle.cat_table.specs.Table.{Map, Text, find, get, put, text_cmp}
+use Rattle.cat_collections.specs.Table.{Map, Text, find, get, put, text_cmp}
 use Rattle.cat_links.specs.Links.{Emitted, has, is_empty}
-use Rattle.cat_table.specs.Rows.{without}
+use Rattle.cat_collections.specs.Rows.{without}
 
 -- the counts of the relations of one source, in order
 abbrev pub SourceCounts : Type 0

@@ -4,8 +4,8 @@ use Rattle.std.specs.List.{filter, flat_map, list_any}
 use Rattle.std.specs.Ordering.{eq_by_cmp}
 use Rattle.cat_types.specs.declared.relation.Relation.{Relation}
 use Rattle.cat_types.specs.Relation.{relation_cmp}
-use Rattle.cat_table.specs.Table.{Text, Map, get, same_text}
-use Rattle.cat_table.specs.Order.{in_order}
+use Rattle.cat_collections.specs.Table.{Text, Map, get, same_text}
+use Rattle.cat_collections.specs.Order.{in_order}
 
 -- the relations that each emitter emits, in order of emitter
 abbrev pub Emitted : Type 0

@@ -1,12 +1,12 @@
 //! How many emitters emit each relation, by source.
 ghost use Rattle.std.specs.Prelude.{◌≡◌, ◌+◌, ◌<◌, ◌^◌, IfOk, is_some, length};
 ghost use Rattle.cat_types.specs.Relation.{relation_cmp};
-ghost use Rattle.cat_table.specs.Table.{find};
+ghost use Rattle.cat_collections.specs.Table.{find};
 ghost use Rattle.cat_links.specs.Links.{is_empty};
 ghost use Rattle.cat_links.specs.Counts as spec;
 
-use cat_table::listing::Copied;
-use cat_table::map::Map;
+use cat_collections::listing::Copied;
+use cat_collections::map::Map;
 use cat_types::reference::Ref;
 use cat_types::relation::Relation;
 use std::alloc::{AllocError, Global};

@@ -3,16 +3,16 @@ ghost use Rattle.std.specs.Prelude.{◌≡◌, ◌++◌, [], IfOk, IsTrue, lengt
 ghost use Rattle.std.specs.FinMap.Entries.{is_sorted};
 ghost use Rattle.std.specs.List.{filter};
 ghost use Rattle.std.specs.Iterator.{YieldsFirstRef, item_count};
-ghost use Rattle.cat_table.specs.Table.{text_cmp};
-ghost use Rattle.cat_table.specs.Order.{in_order};
+ghost use Rattle.cat_collections.specs.Table.{text_cmp};
+ghost use Rattle.cat_collections.specs.Order.{in_order};
 ghost use Rattle.cat_links.specs.Changes.{AreChanged, touched, with_changes, with_emitter};
 ghost use Rattle.cat_links.specs.Left.{relations_left};
 ghost use Rattle.cat_links.specs.Links as spec;
 
 use crate::counts::{Counts, SourceCounts, gain, is_counted, lose};
 use crate::moved::difference;
-use cat_table::listing::{Copied, Listing};
-use cat_table::map::Map;
+use cat_collections::listing::{Copied, Listing};
+use cat_collections::map::Map;
 use cat_types::reference::Ref;
 use cat_types::relation::Relation;
 use cat_types::sorted::{append, in_order};
@@ -40,7 +40,7 @@ pub struct Links {
 impl Model for Links {
     ghost use Rattle.std.specs.Prelude.{List};
     ghost use Rattle.cat_types.specs.declared.relation.Relation.{Relation};
-    ghost use Rattle.cat_table.specs.Table.{Map};
+    ghost use Rattle.cat_collections.specs.Table.{Map};
     ghost use Rattle.cat_links.specs.Counts.{AreCounts};
 
     ghost Value = { Map (List Relation) };
@@ -59,7 +59,7 @@ pub struct Linked<'a> {
 impl<'a> Model for Linked<'a> {
     ghost use Rattle.std.specs.Prelude.{List, [], option_map, unwrap_or};
     ghost use Rattle.cat_types.specs.declared.relation.Relation.{Relation};
-    ghost use Rattle.cat_table.specs.Table.{keys};
+    ghost use Rattle.cat_collections.specs.Table.{keys};
 
     ghost Value = { List Relation };
 

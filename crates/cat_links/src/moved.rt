@@ -3,10 +3,10 @@ ghost use Rattle.std.specs.Prelude.{◌≡◌, not, IfOk};
 ghost use Rattle.std.specs.List.{filter};
 ghost use Rattle.std.specs.List.Sorted.{IsStrictlySortedBy};
 ghost use Rattle.cat_types.specs.Relation.{relation_cmp};
-ghost use Rattle.cat_table.specs.Order.{in_order};
+ghost use Rattle.cat_collections.specs.Order.{in_order};
 ghost use Rattle.cat_links.specs.Links.{has, only_in};
 
-use cat_table::listing::Copied;
+use cat_collections::listing::Copied;
 use cat_types::relation::Relation;
 use cat_types::sorted::{append, in_order, is_among};
 use std::alloc::{AllocError, Global};

@@ -7,7 +7,7 @@ use Rattle.std.specs.Ordering.{eq_by_cmp}
 use Rattle.std.specs.Cmp.{nat_cmp_total}
 use Rattle.std.specs.FinMap.{nat_cmp-IsAntisymmetric}
 use Rattle.std.specs.FinMap.Entries.{is_sorted, is_sorted-put}
-use Rattle.cat_table.specs.Table.{same_text, keys, get, put, over}
+use Rattle.cat_collections.specs.Table.{same_text, keys, get, put, over}
 use Rattle.cat_types.specs.declared.input.Offered.{Offered}
 use Rattle.cat_types.specs.declared.work.Output.{Output}
 use Rattle.cat_model.specs.Catalogue.{Ref, Rows, Rules, row_at, may_offer, rehold}
@@ -19,7 +19,7 @@ use Rattle.cat_model.specs.declared.types.State.{State}
 use Rattle.cat_model.specs.declared.types.Origin.TheVariants.{Provider, Entity}
 use Rattle.cat_model.specs.Sound.{Sound, offered}
 use Rattle.cat_model.specs.Step.{same_origin, offered_again, row_after, has_row, add_offer, add_offers, replaced}
-use Rattle.cat_table.proofs.Tables.{same_is, find-over, find-put_same, find-put_other, is_sorted-tabulate}
+use Rattle.cat_collections.proofs.Tables.{same_is, find-over, find-put_same, find-put_other, is_sorted-tabulate}
 use Rattle.cat_model.specs.Mend.{IsReplaced, AreOpen, WasThere, IsReady, mended}
 use Rattle.cat_model.proofs.Mended.{rehold-is}
 

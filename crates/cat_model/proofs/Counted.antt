@@ -9,12 +9,12 @@ use Rattle.std.specs.Ordering.{eq_by_cmp, is_eq, is_gt}
 use Rattle.std.specs.Cmp.{IsTotalOrder}
 use Rattle.std.specs.FinMap.{IsAntisymmetric}
 use Rattle.std.specs.FinMap.Entries.{is_sorted}
-use Rattle.cat_table.specs.Places.{before}
-use Rattle.cat_table.specs.Rows.{without}
-use Rattle.cat_table.specs.Table.{Map, Text, find, get, text_cmp}
-use Rattle.cat_table.proofs.Tables.{and_first, and_second, same_is, same_self, text_antisymmetric, text_total}
-use Rattle.cat_values.proofs.Indexed.{ticket_antisymmetric, ticket_total}
-use Rattle.cat_values.proofs.Least.{below_found, equally_low, lower, lt_from, lt_true, not_higher, two_numbers}
+use Rattle.cat_collections.specs.Places.{before}
+use Rattle.cat_collections.specs.Rows.{without}
+use Rattle.cat_collections.specs.Table.{Map, Text, find, get, text_cmp}
+use Rattle.cat_collections.proofs.Tables.{and_first, and_second, same_is, same_self, text_antisymmetric, text_total}
+use Rattle.cat_state_parts.proofs.Indexed.{ticket_antisymmetric, ticket_total}
+use Rattle.cat_state_parts.proofs.Least.{below_found, equally_low, lower, lt_from, lt_true, not_higher, two_numbers}
 use Rattle.cat_model.specs.Dues.{AreMoments, Moments, due_of, is_due, is_leased, is_live, lapse, lapse_of, moment_cmp, refs_until}
 use Rattle.cat_model.specs.declared.types.Lease.{Lease}
 use Rattle.cat_model.specs.declared.types.Record.{Record}

@@ -8,14 +8,14 @@ use Rattle.std.specs.Ordering.{eq_by_cmp}
 use Rattle.std.specs.Cmp.{nat_cmp_total}
 use Rattle.std.specs.FinMap.{nat_cmp-IsAntisymmetric}
 use Rattle.std.proofs.lemmas.Bool.Decides.{nat_tests}
-use Rattle.cat_table.specs.Table.{same_text, get, keys}
+use Rattle.cat_collections.specs.Table.{same_text, get, keys}
 use Rattle.cat_model.specs.Catalogue.{Ref, Rows, Holders, held, row_at, holding, climbs_row, climbs_origin, climbs, rooted}
 use Rattle.cat_model.specs.declared.types.Origin.{Origin}
 use Rattle.cat_model.specs.declared.types.Row.{Row}
 use Rattle.cat_model.specs.declared.types.Origin.TheVariants.{Provider, Entity}
 use Rattle.cat_model.specs.Sound.{AreHolders, AreNamed, rooted_holders}
 use Rattle.cat_model.specs.Step.{same_origin}
-use Rattle.cat_table.proofs.Tables.{text_total, text_antisymmetric, found_key, find-over, any_filter, same_tabulated}
+use Rattle.cat_collections.proofs.Tables.{text_total, text_antisymmetric, found_key, find-over, any_filter, same_tabulated}
 use Rattle.cat_model.proofs.Replaced.{same_origin-is, same_origin-self}
 use Rattle.cat_model.specs.Rows.{is_from, given}
 use Rattle.cat_model.specs.Mend.{is_holder, held_by, lost_by, lost, children, below, cut_off, released, IsReplaced}

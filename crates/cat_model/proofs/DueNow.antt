@@ -10,11 +10,11 @@ use Rattle.std.specs.Ordering.{eq_by_cmp, is_gt}
 use Rattle.std.specs.Cmp.{nat_cmp_total}
 use Rattle.std.specs.FinMap.{nat_cmp-IsAntisymmetric}
 use Rattle.std.specs.FinMap.Entries.{is_some-find, is_sorted}
-use Rattle.cat_table.specs.Order.{in_order}
-use Rattle.cat_table.specs.Table.{Map, Text, find, get, keys, text_cmp}
-use Rattle.cat_table.proofs.Orders.{has-filter, in_order_is, keys_rise}
-use Rattle.cat_table.proofs.Tables.{and_second, or_true, same_is, same_self, text_antisymmetric, text_total}
-use Rattle.cat_values.proofs.Least.{le_from, le_not, not_higher, same_some}
+use Rattle.cat_collections.specs.Order.{in_order}
+use Rattle.cat_collections.specs.Table.{Map, Text, find, get, keys, text_cmp}
+use Rattle.cat_collections.proofs.Orders.{has-filter, in_order_is, keys_rise}
+use Rattle.cat_collections.proofs.Tables.{and_second, or_true, same_is, same_self, text_antisymmetric, text_total}
+use Rattle.cat_state_parts.proofs.Least.{le_from, le_not, not_higher, same_some}
 use Rattle.cat_model.specs.Dues.{AreMoments, Moments, due_of, is_at, is_due, moment_cmp, refs_due, refs_until}
 use Rattle.cat_model.specs.declared.types.Record.{Record}
 use Rattle.cat_model.proofs.Dues.{listed}

@@ -6,10 +6,10 @@ use Rattle.std.specs.Ordering.{eq_by_cmp}
 use Rattle.std.specs.Cmp.{IsTotalOrder, nat_cmp_total, eq_by_cmp_equiv}
 use Rattle.std.specs.FinMap.{IsAntisymmetric, nat_cmp-IsAntisymmetric}
 use Rattle.std.specs.FinMap.Entries.{find-put, is_sorted, is_sorted-put, is_sorted-where_key, length-put, length_without, same_entries}
-use Rattle.cat_table.specs.Rows.{without}
-use Rattle.cat_table.specs.Table.{Map, Text, find, get, put, same_text, text_cmp}
-use Rattle.cat_table.proofs.Tables.{same_is, same_self, text_antisymmetric, text_total}
-use Rattle.cat_values.proofs.Indexed.{find-without, same_ticket, ticket_antisymmetric, ticket_total, turned_number}
+use Rattle.cat_collections.specs.Rows.{without}
+use Rattle.cat_collections.specs.Table.{Map, Text, find, get, put, same_text, text_cmp}
+use Rattle.cat_collections.proofs.Tables.{same_is, same_self, text_antisymmetric, text_total}
+use Rattle.cat_state_parts.proofs.Indexed.{find-without, same_ticket, ticket_antisymmetric, ticket_total, turned_number}
 use Rattle.cat_model.specs.Dues.{AreMoments, Moments, is_at, moment_cmp, rerecorded_at}
 use Rattle.cat_model.specs.declared.types.Lease.{Lease}
 use Rattle.cat_model.specs.declared.types.Record.{Record}

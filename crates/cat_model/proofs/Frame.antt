@@ -7,7 +7,7 @@ use Rattle.std.specs.List.{list_any}
 use Rattle.std.specs.FinMap.Entries.{is_some-find}
 use Rattle.std.specs.Cmp.{nat_cmp_total}
 use Rattle.std.specs.FinMap.{nat_cmp-IsAntisymmetric}
-use Rattle.cat_table.specs.Table.{text_cmp, same_text, get, keys, tabulate, place}
+use Rattle.cat_collections.specs.Table.{text_cmp, same_text, get, keys, tabulate, place}
 use Rattle.cat_model.specs.Catalogue.{Ref, Rules, held, may_offer, work, output_of, parts, parts_from, records_emit, parts_of_orphan, same_option, due_now, record_after, orphan_after, fresh_refs, reheld, rerecorded, known_refs, changed_refs, mark_after, document_after, remarked, frame, orphan_from_output, orphan_from_record, with_origin_held, row_at}
 use Rattle.cat_types.specs.declared.input.Offered.{Offered}
 use Rattle.cat_types.specs.declared.work.Output.{Output}
@@ -21,7 +21,7 @@ use Rattle.cat_model.specs.declared.types.Leaving.{Leaving}
 use Rattle.cat_model.specs.declared.types.Leaving.TheVariants.{Deleted, Orphaned}
 use Rattle.cat_model.specs.declared.types.Origin.TheVariants.{Provider, Entity}
 use Rattle.cat_model.specs.Sound.{offered, AreOffers, Sound, IsRight, IsStitched, number_in, its_number, AreNumbers}
-use Rattle.cat_table.proofs.Tables.{text_total, text_antisymmetric, found_key, no_key, find-over, find-tabulate, find-tabulate_all, cond_none, list_any-append, any_filter, place-lt, place_apart, is_sorted-tabulate}
+use Rattle.cat_collections.proofs.Tables.{text_total, text_antisymmetric, found_key, no_key, find-over, find-tabulate, find-tabulate_all, cond_none, list_any-append, any_filter, place-lt, place_apart, is_sorted-tabulate}
 use Rattle.cat_model.proofs.Holding.{reheld_holders, stands, stood, rehold_in_order}
 
 pub same_option-is : {A : Type 0} (same : A → A → Bool) → ((x y : A) → same x y ≡ true → x ≡ y) → (v w : Option A) → same_option same v w ≡ true → v ≡ w

@@ -8,14 +8,14 @@ use Rattle.std.specs.List.{list_any, filter_map, cons_option}
 use Rattle.std.specs.Cmp.{nat_cmp_total}
 use Rattle.std.specs.FinMap.{nat_cmp-IsAntisymmetric}
 use Rattle.std.specs.FinMap.Entries.{is_sorted, is_sorted-put, by_order}
-use Rattle.cat_table.specs.Table.{Text, text_cmp, same_text, get, keys, find, put, first}
+use Rattle.cat_collections.specs.Table.{Text, text_cmp, same_text, get, keys, find, put, first}
 use Rattle.cat_model.specs.Catalogue.{Ref, Rows, Holders, held, row_at, holding, may_offer, climbs_row, climbs_origin, climbs, rooted, claims, hold, claim, holding_arrivals, rehold, with_origin_held, standing}
 use Rattle.cat_model.specs.declared.types.Origin.{Origin}
 use Rattle.cat_model.specs.declared.types.Row.{Row}
 use Rattle.cat_model.specs.declared.types.Origin.TheVariants.{Provider, Entity}
 use Rattle.cat_model.specs.Sound.{IsRowOf, AreHolders}
 use Rattle.std.proofs.lemmas.List.{length-map}
-use Rattle.cat_table.proofs.Tables.{text_total, text_antisymmetric, same_is, same_self, or_true, some_or_none, none_or_some, first_some, first_in, first_none, found_key, find-over, find-put_same, find-put_other, and_first, and_second, not_true}
+use Rattle.cat_collections.proofs.Tables.{text_total, text_antisymmetric, same_is, same_self, or_true, some_or_none, none_or_some, first_some, first_in, first_none, found_key, find-over, find-put_same, find-put_other, and_first, and_second, not_true}
 
 -- a new key makes the map longer
 pub length-put_new : {K X : Type 0} (R : K → K → Ordering) (k : K) (v : X) (m : List (K × X)) → find R k m ≡ None → length (put R k v m) ≡ suc (length m)

@@ -7,10 +7,10 @@ use Rattle.std.specs.Ordering.{eq_by_cmp}
 use Rattle.std.specs.Cmp.{nat_cmp_total}
 use Rattle.std.specs.FinMap.{IsAntisymmetric, nat_cmp-IsAntisymmetric}
 use Rattle.std.specs.FinMap.Entries.{is_sorted, below_all, where_key, is_sorted-where_key, is_sorted-put, is_some-find, find-put, find-where_key, same_entries}
-use Rattle.cat_table.specs.Rows.{without}
-use Rattle.cat_table.specs.Table.{Map, Text, find, get, keys, put, text_cmp, same_text}
-use Rattle.cat_table.proofs.Tables.{text_total, text_antisymmetric, same_is, same_self, find-put_same, find-put_other, found_key}
-use Rattle.cat_table.proofs.Orders.{has-filter}
+use Rattle.cat_collections.specs.Rows.{without}
+use Rattle.cat_collections.specs.Table.{Map, Text, find, get, keys, put, text_cmp, same_text}
+use Rattle.cat_collections.proofs.Tables.{text_total, text_antisymmetric, same_is, same_self, find-put_same, find-put_other, found_key}
+use Rattle.cat_collections.proofs.Orders.{has-filter}
 use Rattle.cat_model.specs.declared.types.Row.{Row}
 use Rattle.cat_model.specs.declared.types.Origin.TheVariants.{Provider, Entity}
 use Rattle.cat_model.specs.declared.types.Origin.{Origin}

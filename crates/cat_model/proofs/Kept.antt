@@ -6,13 +6,13 @@ use Rattle.std.specs.Option.{option_and_then}
 use Rattle.std.specs.Ordering.{is_eq}
 use Rattle.std.specs.List.{list_any}
 use Rattle.std.specs.FinMap.Entries.{is_some-find, is_sorted, below_all}
-use Rattle.cat_table.specs.Table.{text_cmp, same_text, Map, get, keys, over, first}
+use Rattle.cat_collections.specs.Table.{text_cmp, same_text, Map, get, keys, over, first}
 use Rattle.std.proofs.lemmas.List.{length-map}
 use Rattle.cat_model.specs.Catalogue.{Ref, Rows, Holders, held, row_at, holding, climbs, climbs_row, climbs_origin, rooted}
 use Rattle.cat_model.specs.declared.types.Origin.{Origin}
 use Rattle.cat_model.specs.declared.types.Row.{Row}
 use Rattle.cat_model.specs.declared.types.Origin.TheVariants.{Provider, Entity}
-use Rattle.cat_table.proofs.Tables.{text_total, text_antisymmetric, same_is, same_self, or_true, first_some, some_or_none, found_key, find-over, is_sorted-tabulate}
+use Rattle.cat_collections.proofs.Tables.{text_total, text_antisymmetric, same_is, same_self, or_true, first_some, some_or_none, found_key, find-over, is_sorted-tabulate}
 use Rattle.cat_model.proofs.Holding.{count, count-le, count-less, begun, Firm, firm_stays, begun_held, begun_was, begun_in_order, climbs_more, climbs_row-more}
 use Rattle.cat_model.proofs.Holding.Firm.{by_provider, by_entity}
 use Rattle.std.specs.FinMap.Entries.{same_entries}

@@ -7,8 +7,8 @@ use Rattle.std.specs.Cmp.{nat_cmp_total}
 use Rattle.std.specs.FinMap.{nat_cmp-IsAntisymmetric}
 use Rattle.std.specs.FinMap.Entries.{is_sorted, below_all}
 use Rattle.std.proofs.lemmas.Bool.Decides.{nat_tests}
-use Rattle.cat_table.specs.Table.{keys, first}
-use Rattle.cat_table.proofs.Tables.{same_is, first_some, first_none}
+use Rattle.cat_collections.specs.Table.{keys, first}
+use Rattle.cat_collections.proofs.Tables.{same_is, first_some, first_none}
 use Rattle.cat_model.specs.Mend.{lesser, least}
 use Rattle.cat_model.proofs.CutOff.{among}
 

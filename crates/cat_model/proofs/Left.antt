@@ -5,13 +5,13 @@ use Rattle.std.specs.declared.option.Option.TheVariants.{None, Some}
 use Rattle.std.specs.Option.{option_and_then}
 use Rattle.std.specs.Cmp.{nat_cmp_total}
 use Rattle.std.specs.FinMap.{nat_cmp-IsAntisymmetric}
-use Rattle.cat_table.specs.Table.{same_text, get, keys, first}
+use Rattle.cat_collections.specs.Table.{same_text, get, keys, first}
 use Rattle.cat_model.specs.Catalogue.{Ref, Rows, Holders, held, row_at, may_offer, claims, hold, claim, rehold, with_origin_held, standing}
 use Rattle.cat_model.specs.declared.types.Origin.{Origin}
 use Rattle.cat_model.specs.declared.types.Row.{Row}
 use Rattle.cat_model.specs.declared.types.Origin.TheVariants.{Provider, Entity}
 use Rattle.cat_model.specs.Sound.{AreHolders}
-use Rattle.cat_table.proofs.Tables.{text_total, text_antisymmetric, same_is, find-over, find-put_other, any_filter, same_tabulated, not_true, and_first, first_some, some_or_none}
+use Rattle.cat_collections.proofs.Tables.{text_total, text_antisymmetric, same_is, find-over, find-put_other, any_filter, same_tabulated, not_true, and_first, first_some, some_or_none}
 use Rattle.cat_model.proofs.Kept.{first_step}
 use Rattle.cat_model.specs.Mend.{cut_off, released, gone, is_of, left_by, IsReplaced, AreOpen}
 use Rattle.cat_model.proofs.Members.{filter_passes}

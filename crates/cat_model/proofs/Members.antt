@@ -7,8 +7,8 @@ use Rattle.std.specs.declared.option.Option.TheVariants.{None, Some}
 use Rattle.std.specs.Cmp.{IsTotalOrder}
 use Rattle.std.specs.FinMap.{IsAntisymmetric}
 use Rattle.std.proofs.lemmas.List.Folds.{list_any-append}
-use Rattle.cat_table.proofs.Tables.{same_is, same_self, or_true, and_first, and_second}
-use Rattle.cat_table.proofs.Orders.{has-filter}
+use Rattle.cat_collections.proofs.Tables.{same_is, same_self, or_true, and_first, and_second}
+use Rattle.cat_collections.proofs.Orders.{has-filter}
 
 either_true : (a b : Bool) → (a || b) ≡ true → (a ≡ true) ⊎ (b ≡ true)
 either_true true b h = inl refl

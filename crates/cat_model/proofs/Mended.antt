@@ -9,13 +9,13 @@ use Rattle.std.specs.Cmp.{nat_cmp_total}
 use Rattle.std.specs.FinMap.{nat_cmp-IsAntisymmetric}
 use Rattle.std.specs.FinMap.Entries.{is_sorted}
 use Rattle.std.proofs.lemmas.Bool.Decides.{nat_tests}
-use Rattle.cat_table.specs.Table.{text_cmp, same_text, get, keys, find, put, first}
+use Rattle.cat_collections.specs.Table.{text_cmp, same_text, get, keys, find, put, first}
 use Rattle.cat_model.specs.Catalogue.{Ref, Rows, Holders, held, row_at, may_offer, claims, hold, claim, rehold}
 use Rattle.cat_model.specs.declared.types.Origin.{Origin}
 use Rattle.cat_model.specs.declared.types.Row.{Row}
 use Rattle.cat_model.specs.declared.types.Origin.TheVariants.{Provider, Entity}
 use Rattle.cat_model.specs.Sound.{AreHolders}
-use Rattle.cat_table.proofs.Tables.{text_total, text_antisymmetric, same_is, same_self, found_key, find-over, find-put_same, find-put_other, and_first, and_second, not_true, any_filter, some_or_none}
+use Rattle.cat_collections.proofs.Tables.{text_total, text_antisymmetric, same_is, same_self, found_key, find-over, find-put_same, find-put_other, and_first, and_second, not_true, any_filter, some_or_none}
 use Rattle.cat_model.proofs.Kept.{first_step}
 use Rattle.cat_model.specs.Rows.{given, is_named, named}
 use Rattle.cat_model.specs.Mend.{cut_off, released, candidates, least, opened, mend, mended, IsReplaced}

@@ -7,10 +7,10 @@ use Rattle.std.specs.Ordering.{eq_by_cmp}
 use Rattle.std.specs.Cmp.{nat_cmp_total, eq_by_cmp_equiv}
 use Rattle.std.specs.FinMap.{nat_cmp-IsAntisymmetric}
 use Rattle.std.specs.FinMap.Entries.{find-put, is_some-find, is_sorted}
-use Rattle.cat_table.specs.Rows.{without}
-use Rattle.cat_table.specs.Table.{Map, Text, find, get, keys, put, same_text, text_cmp}
-use Rattle.cat_table.proofs.Orders.{has-filter}
-use Rattle.cat_table.proofs.Tables.{find-put_other, find-put_same, same_is, same_self, text_antisymmetric, text_total}
+use Rattle.cat_collections.specs.Rows.{without}
+use Rattle.cat_collections.specs.Table.{Map, Text, find, get, keys, put, same_text, text_cmp}
+use Rattle.cat_collections.proofs.Orders.{has-filter}
+use Rattle.cat_collections.proofs.Tables.{find-put_other, find-put_same, same_is, same_self, text_antisymmetric, text_total}
 use Rattle.cat_model.specs.Rows.{AreRead, Arrivals, Rows, has_arrival, may_read, names_of, reading, row_at, set_with, set_without, with_arrival, with_names, with_read, with_set, without_arrival, without_names}
 use Rattle.cat_model.specs.declared.types.Row.{Row}
 use Rattle.cat_model.proofs.Indexed.{find-without, indexed, with_set_there}

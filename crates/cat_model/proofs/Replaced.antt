@@ -7,7 +7,7 @@ use Rattle.std.specs.Ordering.{eq_by_cmp}
 use Rattle.std.specs.List.{list_any}
 use Rattle.std.specs.Cmp.{nat_cmp_total}
 use Rattle.std.specs.FinMap.{nat_cmp-IsAntisymmetric}
-use Rattle.cat_table.specs.Table.{same_text, keys, put, over}
+use Rattle.cat_collections.specs.Table.{same_text, keys, put, over}
 use Rattle.cat_model.specs.Catalogue.{Ref, Rows, row_at}
 use Rattle.cat_types.specs.declared.input.Offered.{Offered}
 use Rattle.cat_model.specs.declared.types.Origin.{Origin}
@@ -17,7 +17,7 @@ use Rattle.cat_model.specs.declared.types.Origin.TheVariants.{Provider, Entity}
 use Rattle.cat_model.specs.Sound.{offered, HasRow, AreOffers}
 use Rattle.cat_model.specs.Step.{same_origin, offered_again, row_after, is_offer, has_row, add_offer, add_offers, with_offers}
 use Rattle.cat_model.specs.declared.types.Numbered.{Numbered}
-use Rattle.cat_table.proofs.Tables.{text_total, text_antisymmetric, same_is, same_self, find-over, find-put_same, find-put_other, and_first, and_second, or_true, found_key}
+use Rattle.cat_collections.proofs.Tables.{text_total, text_antisymmetric, same_is, same_self, find-over, find-put_same, find-put_other, and_first, and_second, or_true, found_key}
 
 pub same_origin-is : (o q : Origin) → same_origin o q ≡ true → o ≡ q
 same_origin-is (Provider p) (Provider q) h = ap Provider (same_is text_total text_antisymmetric p q h)

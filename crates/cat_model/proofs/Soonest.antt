@@ -8,10 +8,10 @@ use Rattle.std.specs.Ordering.{eq_by_cmp, is_eq, is_gt}
 use Rattle.std.specs.Cmp.{nat_cmp_total, tied_itself}
 use Rattle.std.specs.FinMap.{nat_cmp-IsAntisymmetric}
 use Rattle.std.specs.FinMap.Entries.{below_all, is_sorted}
-use Rattle.cat_table.specs.Table.{Map, Text, find, get, text_cmp}
-use Rattle.cat_table.proofs.Tables.{and_first, and_second, same_is, same_self, text_total, text_antisymmetric}
-use Rattle.cat_values.proofs.Indexed.{ticket_antisymmetric, ticket_total}
-use Rattle.cat_values.proofs.Least.{below_found, equally_low, le_from, le_not, level, lower, not_higher, same_some, some_none, two_numbers}
+use Rattle.cat_collections.specs.Table.{Map, Text, find, get, text_cmp}
+use Rattle.cat_collections.proofs.Tables.{and_first, and_second, same_is, same_self, text_total, text_antisymmetric}
+use Rattle.cat_state_parts.proofs.Indexed.{ticket_antisymmetric, ticket_total}
+use Rattle.cat_state_parts.proofs.Least.{below_found, equally_low, le_from, le_not, level, lower, not_higher, same_some, some_none, two_numbers}
 use Rattle.cat_model.specs.Dues.{AreMoments, Moments, due_of, first_taken, is_at, is_free, may_take, moment_cmp, sooner, soonest}
 use Rattle.cat_model.proofs.Dues.{listed}
 use Rattle.cat_model.specs.declared.types.Record.{Record}

@@ -28,7 +28,7 @@ pub use Rattle.cat_model.specs.declared.types.Leaving.{Leaving}
 use Rattle.cat_model.specs.declared.types.Leaving.TheVariants.{Deleted, Orphaned}
 use Rattle.cat_model.specs.declared.types.Origin.TheVariants.{Provider, Entity}
 use Rattle.cat_types.specs.declared.work.Outcome.TheVariants.{Good}
-use Rattle.cat_table.specs.Table.{Text, text_cmp, same_text, Map, get, keys, put, tabulate, over, first, place}
+use Rattle.cat_collections.specs.Table.{Text, text_cmp, same_text, Map, get, keys, put, tabulate, over, first, place}
 
 -- ---- what the lower layers give
 

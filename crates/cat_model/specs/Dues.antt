@@ -5,8 +5,8 @@ use Rattle.std.specs.Ordering.{eq_by_cmp, nat_cmp}
 use Rattle.std.specs.declared.cmp.Ordering.{Ordering}
 use Rattle.std.specs.declared.option.Option.{Option}
 use Rattle.std.specs.declared.option.Option.TheVariants.{None, Some}
-use Rattle.cat_table.specs.Pairs.{pair_cmp}
-use Rattle.cat_table.specs.Table.{Map, Text, find, get, keys, put, text_cmp}
+use Rattle.cat_collections.specs.Pairs.{pair_cmp}
+use Rattle.cat_collections.specs.Table.{Map, Text, find, get, keys, put, text_cmp}
 use Rattle.cat_model.specs.declared.types.Lease.{Lease}
 use Rattle.cat_model.specs.declared.types.Record.{Record}
 

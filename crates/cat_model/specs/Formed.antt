@@ -3,7 +3,7 @@ use Rattle.std.specs.Prelude.{◌≡◌, ⊤, ℕ, ◌≤◌, ◌<◌, ◌^◌, 
 use Rattle.std.specs.declared.option.Option.TheVariants.{Some}
 use Rattle.std.specs.FinMap.Entries.{is_sorted}
 use Rattle.cat_types.specs.declared.work.Outcome.TheVariants.{Good}
-use Rattle.cat_table.specs.Table.{Text, text_cmp, get}
+use Rattle.cat_collections.specs.Table.{Text, text_cmp, get}
 use Rattle.cat_model.specs.Catalogue.{Ref, Tree, Issues, Shelf, Offered, Output, Rules, Row, ProviderInputs, Record, Orphan, Parts, State, Work, row_at, work_of, work_with}
 use Rattle.cat_model.specs.Step.{Given, Event}
 use Rattle.cat_model.specs.Step.Event.{Mutate, ShelfPut}

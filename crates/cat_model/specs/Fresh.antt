@@ -3,7 +3,7 @@ use Rattle.std.specs.Prelude.{◌≡◌, ℕ, zero, suc, true, false, cond, List
 use Rattle.std.specs.declared.option.Option.{Option}
 use Rattle.std.specs.declared.option.Option.TheVariants.{None, Some}
 use Rattle.std.specs.Option.{option_and_then, option_map}
-use Rattle.cat_table.specs.Table.{Text, same_text, Map, get, keys, tabulate, over, text_cmp}
+use Rattle.cat_collections.specs.Table.{Text, same_text, Map, get, keys, tabulate, over, text_cmp}
 use Rattle.cat_model.specs.Catalogue.{Ref, Tree, Issues, Shelf, Offered, Output, Outcome, Parts, Work, Rules, Origin, Row, ProviderInputs, Record, State, holding, work, work_of, output_of, emitted, from_source, Orphan, parts}
 use Rattle.cat_types.specs.declared.work.Outcome.TheVariants.{Good, Bad}
 use Rattle.cat_model.specs.declared.types.Origin.TheVariants.{Provider, Entity}

@@ -5,7 +5,7 @@ use Rattle.std.specs.declared.option.Option.TheVariants.{None, Some}
 pub use Rattle.cat_types.specs.declared.input.Item.{Item}
 pub use Rattle.cat_types.specs.declared.input.Mutation.{Mutation}
 use Rattle.cat_types.specs.declared.input.Mutation.TheVariants.{Full, Delta}
-use Rattle.cat_table.specs.Table.{Text}
+use Rattle.cat_collections.specs.Table.{Text}
 use Rattle.cat_model.specs.Catalogue.{Ref, Offered, Offers}
 pub use Rattle.cat_model.specs.declared.types.Given.{Given}
 

@@ -5,7 +5,7 @@ use Rattle.std.specs.declared.option.Option.{Option}
 use Rattle.std.specs.declared.option.Option.TheVariants.{None, Some}
 use Rattle.std.specs.Ordering.{nat_cmp}
 use Rattle.std.specs.List.{filter, filter_map, flat_map, list_any}
-use Rattle.cat_table.specs.Table.{text_cmp, same_text, get, over}
+use Rattle.cat_collections.specs.Table.{text_cmp, same_text, get, over}
 use Rattle.cat_model.specs.Catalogue.{Ref, Rows, Holders, row_at, held, may_offer, claims, hold}
 use Rattle.cat_model.specs.declared.types.Origin.{Origin}
 use Rattle.cat_model.specs.declared.types.Row.{Row}

@@ -9,7 +9,7 @@ use Rattle.std.specs.List.{filter, flat_map, list_any}
 use Rattle.cat_types.specs.declared.issue.Level.{Level}
 use Rattle.cat_types.specs.declared.issue.Level.TheVariants.{Error, Warning}
 use Rattle.cat_types.specs.declared.work.Outcome.TheVariants.{Good, Bad}
-use Rattle.cat_table.specs.Table.{Text, text_cmp, same_text, get, keys, tabulate, first}
+use Rattle.cat_collections.specs.Table.{Text, text_cmp, same_text, get, keys, tabulate, first}
 use Rattle.cat_model.specs.Catalogue.{Ref, Issues, Issue, Outcome, Rules, Row, Record, Orphan, State, row_at, holding, parts, known_refs}
 use Rattle.cat_model.specs.Step.{Settings, due_at, Given, Order, StitchOrder, change, source_at, next_taken, is_present, is_present_stitch}
 use Rattle.cat_model.specs.Step.Event.{Take}

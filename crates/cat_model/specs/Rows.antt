@@ -7,8 +7,8 @@ use Rattle.std.specs.FinMap.Entries.{is_sorted}
 use Rattle.std.specs.declared.cmp.Ordering.{Ordering}
 use Rattle.std.specs.declared.option.Option.{Option}
 use Rattle.std.specs.declared.option.Option.TheVariants.{None, Some}
-use Rattle.cat_table.specs.Table.{Map, Text, find, get, keys, put, same_text, text_cmp}
-use Rattle.cat_table.specs.Rows.{without}
+use Rattle.cat_collections.specs.Table.{Map, Text, find, get, keys, put, same_text, text_cmp}
+use Rattle.cat_collections.specs.Rows.{without}
 use Rattle.cat_target.specs.Targets.{read_names}
 use Rattle.cat_model.specs.declared.types.Row.{Row}
 use Rattle.cat_model.specs.declared.types.Origin.{Origin}

@@ -6,7 +6,7 @@ use Rattle.std.specs.Option.{option_and_then}
 pub use Rattle.cat_model.specs.declared.types.Progress.{Progress}
 pub use Rattle.cat_model.specs.declared.types.Stop.{Stop}
 use Rattle.cat_model.specs.declared.types.Stop.TheVariants.{Refused, Limit}
-use Rattle.cat_table.specs.Table.{Text, text_cmp, Map, get, keys, tabulate}
+use Rattle.cat_collections.specs.Table.{Text, text_cmp, Map, get, keys, tabulate}
 use Rattle.cat_model.specs.Catalogue.{Ref, Parts, Work, Rules, Row, Lease, Record, State, holding, work, parts}
 pub use Rattle.cat_model.specs.Dues.{is_due, refs_due}
 use Rattle.cat_model.specs.declared.types.Origin.TheVariants.{Provider, Entity}

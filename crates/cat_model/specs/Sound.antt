@@ -5,7 +5,7 @@ use Rattle.std.specs.declared.option.Option.TheVariants.{None, Some}
 use Rattle.std.specs.Option.{option_and_then}
 use Rattle.std.specs.Ordering.{nat_cmp}
 use Rattle.std.specs.FinMap.Entries.{is_sorted}
-use Rattle.cat_table.specs.Table.{get, text_cmp, over}
+use Rattle.cat_collections.specs.Table.{get, text_cmp, over}
 use Rattle.cat_model.specs.Catalogue.{Ref, Tree, Offered, Outcome, Parts, Work, Rules, Origin, Row, Rows, Holders, Record, State, held, row_at, rooted, work, output_of, parts, Orphan}
 use Rattle.cat_types.specs.declared.work.Outcome.TheVariants.{Good, Bad}
 use Rattle.cat_model.specs.declared.types.Origin.TheVariants.{Provider, Entity}

@@ -15,7 +15,7 @@ pub use Rattle.cat_model.specs.declared.types.Counter.{Counter}
 pub use Rattle.cat_model.specs.declared.types.Fault.{Fault}
 use Rattle.cat_model.specs.declared.types.Fault.TheVariants.{OldSerial, NotFound, TooLarge, Spent}
 use Rattle.cat_model.specs.declared.types.Counter.TheVariants.{Arrival, Number, Token, Ticket}
-use Rattle.cat_table.specs.Table.{Text, text_cmp, same_text, Map, get, keys, put, over, first, tabulate}
+use Rattle.cat_collections.specs.Table.{Text, text_cmp, same_text, Map, get, keys, put, over, first, tabulate}
 pub use Rattle.cat_model.specs.Rows.{same_origin}
 use Rattle.cat_model.specs.Catalogue.{Ref, Offered, Offers, Outcome, Rules, Origin, Row, Rows, ProviderInputs, Lease, Record, State, row_at, work, parts, same_option, known_refs, frame, Orphan, due_now}
 use Rattle.cat_types.specs.declared.work.Outcome.TheVariants.{Good, Bad}

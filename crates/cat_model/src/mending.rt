@@ -12,7 +12,7 @@ ghost use Rattle.cat_model.specs.declared.types.Origin.{Origin};
 ghost use Rattle.cat_model.specs.declared.types.Origin.TheVariants.{Entity, Provider};
 ghost use Rattle.cat_model.specs.declared.types.Row.{Row};
 ghost use Rattle.cat_model.specs.declared.types.State.{State};
-ghost use Rattle.cat_table.specs.Table.{Text, get, keys, same_text};
+ghost use Rattle.cat_collections.specs.Table.{Text, get, keys, same_text};
 ghost use Rattle.std.specs.List.{list_any};
 ghost use Rattle.cat_types.specs.declared.input.Offered.{Offered};
 ghost use Rattle.cat_types.specs.declared.work.Output.{Output};

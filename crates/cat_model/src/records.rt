@@ -2,22 +2,22 @@
 ghost use Rattle.std.specs.Prelude.{◌≡◌, ◌+◌, ◌<◌, ◌≤◌, ◌==◌, ◌∷◌, [], IfOk, IsTrue, Option, is_ok, is_some, if◌then◌else◌, length, option_map, slice_get};
 ghost use Rattle.std.specs.FinMap.Entries.{is_sorted};
 ghost use Rattle.std.specs.List.{filter};
-ghost use Rattle.cat_owned.specs.BoxedLeft.{boxed_left};
-ghost use Rattle.cat_table.specs.Rows.{without};
-ghost use Rattle.cat_table.specs.Table.{find, get, keys, put, text_cmp};
+ghost use Rattle.cat_owned_map.specs.BoxedLeft.{boxed_left};
+ghost use Rattle.cat_collections.specs.Rows.{without};
+ghost use Rattle.cat_collections.specs.Table.{find, get, keys, put, text_cmp};
 ghost use Rattle.cat_types.specs.Amended.{amended};
 ghost use Rattle.cat_model.specs.Dues.{first_taken, is_due, is_free, is_leased, lapse, may_take, moment_cmp, refs_due, refs_until, rerecorded_at, soonest};
 ghost use Rattle.std.specs.declared.option.Option.TheVariants.{Some};
 
 use crate::types::{Lease, Record};
-use cat_owned::boxed::{BoxedItems, Node, Slot};
-use cat_owned::owned::Owned;
-use cat_table::listing::{Copied, Listing};
-use cat_table::pair::Pair;
-use cat_table::tree::MOST;
+use cat_collections::listing::{Copied, Listing};
+use cat_collections::pair::Pair;
+use cat_collections::tree::MOST;
+use cat_owned_map::boxed::{BoxedItems, Node, Slot};
+use cat_owned_map::owned::Owned;
+use cat_state_parts::marks::Above;
 use cat_types::reference::Ref;
 use cat_types::sorted::in_order;
-use cat_values::marks::Above;
 use std::alloc::{AllocError, Global};
 use std::marker::Model;
 
@@ -46,7 +46,7 @@ impl Drop for Records {
 
 impl Model for Records {
     ghost use Rattle.cat_model.specs.Dues.{AreMoments, due_of, lapse_of};
-    ghost use Rattle.cat_table.specs.Table.{Map};
+    ghost use Rattle.cat_collections.specs.Table.{Map};
     ghost use Rattle.cat_model.specs.declared.types.Record.{Record as TheRecord};
     ghost use Rattle.cat_model.specs.contracts.types.Record.{the_row};
     ghost use Rattle.std.specs.Coded.{coded_list, coded×, coded_ℕ};
@@ -70,7 +70,7 @@ pub struct ReadyRecord {
 
 impl Model for ReadyRecord {
     ghost use Rattle.std.specs.Prelude.{◌≡◌};
-    ghost use Rattle.cat_table.specs.Table.{Text};
+    ghost use Rattle.cat_collections.specs.Table.{Text};
     ghost use Rattle.cat_model.specs.Dues.{lapse_of};
     ghost use Rattle.cat_model.specs.declared.types.Record.{Record as TheRecord};
     ghost use Rattle.cat_model.specs.contracts.types.Record.{the_row};

@@ -3,18 +3,18 @@ ghost use Rattle.std.specs.Prelude.{◌≡◌, [], IfOk, IsTrue, None, if◌then
 ghost use Rattle.std.specs.FinMap.Entries.{is_sorted};
 ghost use Rattle.std.specs.Ordering.{nat_cmp};
 ghost use Rattle.std.specs.Option.{unwrap_or};
-ghost use Rattle.cat_table.specs.Left.{items_left};
-ghost use Rattle.cat_table.specs.Places.{first_from, from};
-ghost use Rattle.cat_table.specs.Rows.{without};
-ghost use Rattle.cat_table.specs.Table.{find, keys, put, text_cmp};
+ghost use Rattle.cat_collections.specs.Left.{items_left};
+ghost use Rattle.cat_collections.specs.Places.{first_from, from};
+ghost use Rattle.cat_collections.specs.Rows.{without};
+ghost use Rattle.cat_collections.specs.Table.{find, keys, put, text_cmp};
 ghost use Rattle.cat_model.specs.declared.types.Origin.TheVariants.{Entity};
 ghost use Rattle.cat_model.specs.Rows.{GivenRises, GivenRisesLess, IsRowAt, Rises, RisesLess, given, named, names_of, reading, row_at, set_with, set_without, with_arrival, with_given, with_names, with_read, with_set, without_arrival, without_given, without_names};
 
 use crate::types::{Origin, Row};
-use cat_table::key::Key;
-use cat_table::listing::{Copied, Listing};
-use cat_table::map::Map;
-use cat_table::tree::Items;
+use cat_collections::key::Key;
+use cat_collections::listing::{Copied, Listing};
+use cat_collections::map::Map;
+use cat_collections::tree::Items;
 use cat_target::target::read_names;
 use cat_tree::text::Text;
 use cat_types::reference::Ref;

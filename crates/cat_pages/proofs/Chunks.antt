@@ -5,7 +5,7 @@ use Rattle.std.specs.List.{filter, AllByRecursion, list_any}
 use Rattle.std.specs.Ordering.{is_lt, is_gt, is_eq, ordering_reverse}
 use Rattle.std.specs.FinMap.Entries.{by_order}
 use Rattle.std.specs.Cmp.{tied_itself}
-use Rattle.cat_table.specs.Table.{text_cmp, text_total, text_antisymmetric, same_text}
+use Rattle.cat_collections.specs.Table.{text_cmp, text_total, text_antisymmetric, same_text}
 use Rattle.cat_pages.specs.Page.{Ranked, place_of, comes_before, inserted, in_page_order}
 use Rattle.cat_pages.specs.Walked.{is_behind, with_value, without_value, rising, falling}
 

@@ -6,8 +6,8 @@ use Rattle.std.specs.List.{filter, AllByRecursion}
 use Rattle.std.specs.Ordering.{is_eq, is_lt, is_gt, ordering_reverse}
 use Rattle.std.specs.Cmp.{IsTotalOrder, tied_itself}
 use Rattle.std.specs.FinMap.Entries.{find, below_all, is_sorted}
-use Rattle.cat_table.specs.Places.{before}
-use Rattle.cat_table.specs.Table.{keys}
+use Rattle.cat_collections.specs.Places.{before}
+use Rattle.cat_collections.specs.Table.{keys}
 use Rattle.cat_pages.proofs.Chunks.{all_kept, all_from}
 
 pub less_is : (o : Ordering) → is_lt o ≡ true → o ≡ Less

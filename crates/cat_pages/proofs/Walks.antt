@@ -7,11 +7,11 @@ use Rattle.std.specs.Ordering.{eq_by_cmp, nat_cmp, is_eq, is_lt, is_gt, ordering
 use Rattle.std.specs.Cmp.{IsTotalOrder, tied_itself}
 use Rattle.std.specs.FinMap.Entries.{by_order, find-where_key, is_sorted}
 use Rattle.std.proofs.lemmas.Slice.Eq.{bytes_eq-Decides}
-use Rattle.cat_table.specs.Table.{Map, find, get, keys, text_cmp, text_total, text_antisymmetric, same_text}
-use Rattle.cat_table.specs.Pairs.{pair_total, pair_antisymmetric}
-use Rattle.cat_table.specs.Places.{before}
+use Rattle.cat_collections.specs.Table.{Map, find, get, keys, text_cmp, text_total, text_antisymmetric, same_text}
+use Rattle.cat_collections.specs.Pairs.{pair_total, pair_antisymmetric}
+use Rattle.cat_collections.specs.Places.{before}
 use Rattle.cat_tree.specs.Data.{Data}
-use Rattle.cat_values.specs.Rows.{Row, folded, same_text as same_folded, value_fits, has_row, document_rows, values_at}
+use Rattle.cat_state_parts.specs.Rows.{Row, folded, same_text as same_folded, value_fits, has_row, document_rows, values_at}
 use Rattle.cat_search.specs.Terms.{Term, document_terms}
 use Rattle.cat_search.specs.Filter.{is_match}
 use Rattle.cat_search.specs.declared.condition.Condition.{Condition}

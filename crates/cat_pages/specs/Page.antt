@@ -7,8 +7,8 @@ use Rattle.std.specs.Borrow.{Bor}
 use Rattle.cat_tree.specs.Data.{Data}
 use Rattle.cat_tree.specs.View.{data_of}
 use Rattle.cat_tree.specs.declared.tree.Tree.{Tree}
-use Rattle.cat_table.specs.Table.{text_cmp}
-use Rattle.cat_values.specs.Rows.{folded, document_rows, values_at}
+use Rattle.cat_collections.specs.Table.{text_cmp}
+use Rattle.cat_state_parts.specs.Rows.{folded, document_rows, values_at}
 pub use Rattle.cat_search.specs.Filter.{is_accepted, matching}
 use Rattle.cat_search.specs.declared.condition.Condition.{Condition}
 use Rattle.cat_pages.specs.declared.query.OrderBy.{OrderBy}

@@ -2,10 +2,10 @@
 use Rattle.std.specs.Prelude.{◌≡◌, ℕ, ◌-◌, List, [], ◌∷◌, ◌++◌, Bool, true, false, not, drop, is_some, map, take, Option, Some, None, if◌then◌else◌}
 use Rattle.std.specs.Option.{option_and_then}
 use Rattle.std.specs.List.{filter, filter_map, flat_map, AllByRecursion}
-use Rattle.cat_table.specs.Table.{Map, get, same_text, text_cmp}
-use Rattle.cat_table.specs.Places.{before}
+use Rattle.cat_collections.specs.Table.{Map, get, same_text, text_cmp}
+use Rattle.cat_collections.specs.Places.{before}
 use Rattle.cat_tree.specs.Data.{Data}
-use Rattle.cat_values.specs.Rows.{folded}
+use Rattle.cat_state_parts.specs.Rows.{folded}
 use Rattle.cat_search.specs.Index.{Set, Lists, has, has_term, term_cmp, terms_at}
 use Rattle.cat_search.specs.Terms.{Term}
 use Rattle.cat_pages.specs.Page.{Pair, Ranked, candidate, is_accepted, is_falling, matching}

@@ -1,7 +1,7 @@
 //! Documents by reference, as what keeps them lends them.
 ghost use Rattle.std.specs.Prelude.{◌≡◌, IfOk, length, map, option_map, slice_get, take};
 ghost use Rattle.cat_tree.specs.View.{data_of};
-ghost use Rattle.cat_table.specs.Table.{get};
+ghost use Rattle.cat_collections.specs.Table.{get};
 ghost use Rattle.cat_pages.specs.Page.{Pair, following, pair_seen, total_of};
 ghost use Rattle.cat_pages.specs.Seen.{ranked_seen};
 ghost use Rattle.cat_search.specs.Filter.{matching};
@@ -10,10 +10,10 @@ ghost use Rattle.cat_search.specs.Index.{AreLists};
 use crate::listed;
 use crate::query::Query;
 use crate::rank::{First, first_of};
+use cat_collections::map::Map;
 use cat_search::condition::Filter;
 use cat_search::index::{self, Index, Lists};
 use cat_search::matches::is_accepted;
-use cat_table::map::Map;
 use cat_tree::tree::Tree;
 use cat_types::node::Node;
 use cat_types::reference::Ref;

@@ -5,7 +5,7 @@ ghost use Rattle.std.specs.FinMap.Entries.{is_sorted};
 ghost use Rattle.std.specs.List.{cons_option};
 ghost use Rattle.std.specs.Option.{option_and_then};
 ghost use Rattle.cat_tree.specs.View.{data_of};
-ghost use Rattle.cat_table.specs.Table.{text_cmp};
+ghost use Rattle.cat_collections.specs.Table.{text_cmp};
 ghost use Rattle.cat_search.specs.Index.{AreLists, term_cmp};
 ghost use Rattle.cat_pages.specs.Page.{is_falling, matching, pair_seen, ranked};
 ghost use Rattle.cat_pages.specs.Seen.{ranked_seen};
@@ -13,12 +13,12 @@ ghost use Rattle.cat_pages.specs.Walked.{AreAtKey, IsListed, at_entry, at_refere
 
 use crate::query::{Cursor, OrderBy, Query};
 use crate::rank::{Ranked, candidate, is_falling};
+use cat_collections::map::Map;
 use cat_search::folded::lower;
 use cat_search::index::Lists;
 use cat_search::matches::is_accepted;
 use cat_search::sets::Set;
 use cat_search::terms::Term;
-use cat_table::map::Map;
 use cat_tree::text::Text;
 use cat_tree::tree::Tree;
 use cat_types::node::Node;

@@ -1,8 +1,8 @@
 //! What a query asks for.
 ghost use Rattle.std.specs.Prelude.{◌≤◌};
 
+use cat_collections::listing::{Copied, Listing};
 use cat_search::condition::Filter;
-use cat_table::listing::{Copied, Listing};
 use cat_tree::text::Text;
 use cat_types::reference::Ref;
 use std::alloc::{AllocError, Global};

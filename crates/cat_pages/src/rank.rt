@@ -2,7 +2,7 @@
 ghost use Rattle.std.specs.Prelude.{◌≡◌, ◌≤◌, ◌∷◌, ◌++◌, IfOk, OnOk, length, drop, map, option_map, take};
 ghost use Rattle.cat_tree.specs.View.{data_of};
 ghost use Rattle.cat_pages.specs.Page.{candidate, comes_before, inserted, is_after, is_falling, kept_with, least, lesser, pair_seen, ranked, value_of};
-ghost use Rattle.cat_table.specs.Table.{text_cmp};
+ghost use Rattle.cat_collections.specs.Table.{text_cmp};
 ghost use Rattle.std.specs.Ordering.{is_lt};
 ghost use Rattle.cat_pages.specs.Seen.{place_seen, ranked_seen};
 

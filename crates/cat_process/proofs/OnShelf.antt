@@ -6,7 +6,7 @@ use Rattle.std.specs.FinMap.Entries.{is_some-find}
 use Rattle.std.specs.List.{list_any, flat_map}
 use Rattle.std.specs.Ordering.{eq_by_cmp}
 use Rattle.cat_tree.specs.Data.{Data}
-use Rattle.cat_table.specs.Table.{Text, Map, text_cmp, same_text, get, keys}
+use Rattle.cat_collections.specs.Table.{Text, Map, text_cmp, same_text, get, keys}
 use Rattle.cat_types.specs.declared.input.Offered.{Offered}
 use Rattle.cat_types.specs.declared.issue.Issue.{Issue}
 use Rattle.cat_types.specs.declared.work.Output.{Output}

@@ -3,8 +3,8 @@ use Rattle.std.proofs.Common.{◌≡◌, ◌==◌, Bool, true, false, ◌||◌, 
 use Rattle.std.specs.List.{list_any}
 use Rattle.std.specs.Prelude.{if◌then◌else◌}
 use Rattle.cat_tree.specs.Data.{Data}
-use Rattle.cat_table.specs.Table.{Map, Text, get, same_text}
-use Rattle.cat_table.proofs.Tables.{or_true, same_self, text_antisymmetric, text_total}
+use Rattle.cat_collections.specs.Table.{Map, Text, get, same_text}
+use Rattle.cat_collections.proofs.Tables.{or_true, same_self, text_antisymmetric, text_total}
 use Rattle.cat_schema.specs.Rules.{breaches}
 use Rattle.cat_target.specs.Targets.{read_names, targets_of, unless_faulty}
 use Rattle.cat_target.specs.declared.target.Target.{Target}

@@ -6,7 +6,7 @@ use Rattle.std.proofs.lemmas.List.Folds.{list_any-append}
 use Rattle.std.proofs.lemmas.Map.Text.{is_eq-slice_cmp}
 use Rattle.std.specs.Bool.{OnFalse}
 use Rattle.std.specs.List.{list_any}
-use Rattle.cat_table.specs.Table.{Text, Map, same_text, keys}
+use Rattle.cat_collections.specs.Table.{Text, Map, same_text, keys}
 use Rattle.cat_types.specs.declared.input.Offered.{Offered}
 use Rattle.cat_types.specs.declared.issue.Issue.{Issue}
 use Rattle.cat_process.specs.Offers.{is_seen, firsts, repeats}

@@ -6,7 +6,7 @@ use Rattle.std.proofs.lemmas.Slice.Eq.{bytes_eq-Decides}
 use Rattle.cat_tree.specs.Ask.{child_of}
 use Rattle.cat_tree.specs.Data.{Data, null, flag, whole, words, list, dict, Items, no_items, item}
 use Rattle.cat_types.specs.Reference.{text_at}
-use Rattle.cat_table.specs.Table.{Text}
+use Rattle.cat_collections.specs.Table.{Text}
 use Rattle.cat_schema.specs.declared.form.Form.TheVariants.{List as Listing, Words, LocationType, Presence}
 use Rattle.cat_schema.specs.declared.form.Wanted.TheVariants.{Optional}
 use Rattle.cat_schema.specs.declared.faults.SchemaFault.{SchemaFault}

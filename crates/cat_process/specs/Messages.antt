@@ -2,7 +2,7 @@
 use Rattle.std.specs.Prelude.{ℕ, ◌++◌, ◌∷◌, codes}
 use Rattle.std.specs.Fmt.{decimal}
 use Rattle.cat_types.specs.Faults.{fault_text}
-use Rattle.cat_table.specs.Table.{Text}
+use Rattle.cat_collections.specs.Table.{Text}
 use Rattle.cat_schema.specs.declared.faults.SchemaFault.{SchemaFault}
 use Rattle.cat_kinds.specs.declared.answer.KindFault.{KindFault}
 use Rattle.cat_target.specs.declared.target.TargetFault.{TargetFault}

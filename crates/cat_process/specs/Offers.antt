@@ -5,7 +5,7 @@ use Rattle.cat_tree.specs.Data.{Data, words, dict, no_members}
 use Rattle.cat_tree.specs.Ask.{child_of}
 use Rattle.cat_tree.specs.Edit.{with_key}
 use Rattle.cat_types.specs.Reference.{is_map, text_at}
-use Rattle.cat_table.specs.Table.{Text, Map, same_text}
+use Rattle.cat_collections.specs.Table.{Text, Map, same_text}
 use Rattle.cat_types.specs.declared.input.Offered.{Offered}
 use Rattle.cat_types.specs.declared.work.Content.{Content}
 use Rattle.cat_inputs.specs.declared.fault.ShelfFault.{ShelfFault}

@@ -5,7 +5,7 @@ use Rattle.cat_tree.specs.Data.{Data, words}
 use Rattle.cat_tree.specs.Ask.{child_of}
 use Rattle.cat_tree.specs.Edit.{with_key}
 use Rattle.cat_types.specs.Reference.{text_at}
-use Rattle.cat_table.specs.Table.{Text, Map, get}
+use Rattle.cat_collections.specs.Table.{Text, Map, get}
 use Rattle.cat_types.specs.declared.input.Offered.{Offered}
 use Rattle.cat_types.specs.declared.issue.Issue.{Issue}
 use Rattle.cat_types.specs.declared.issue.IssueName.{IssueName}

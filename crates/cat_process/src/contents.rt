@@ -6,9 +6,9 @@ ghost use Rattle.cat_process.specs.Process as spec;
 ghost use Rattle.cat_schema.specs.Rules.{breaches};
 ghost use Rattle.cat_target.specs.Targets.{targets_of, unless_faulty};
 
+use cat_collections::listing::{Copied, Listing};
+use cat_collections::map::Map;
 use cat_schema::rules::check;
-use cat_table::listing::{Copied, Listing};
-use cat_table::map::Map;
 use cat_target::target::{Target, TargetFault, targets, targets_unless_faulty};
 use cat_tree::ask::child;
 use cat_tree::text::Text;

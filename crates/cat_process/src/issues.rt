@@ -9,10 +9,10 @@ ghost use Rattle.cat_process.specs.Process as spec;
 
 use crate::contents::entity_targets;
 use crate::message::{kind_text, schema_text, target_text};
+use cat_collections::listing::Listing;
 use cat_kinds::answer::{KindAnswer, KindFault, relations};
 use cat_schema::faults::SchemaFault;
 use cat_schema::rules::{check, sound_names_entity};
-use cat_table::listing::Listing;
 use cat_target::target::TargetFault;
 use cat_tree::text::Text;
 use cat_tree::tree::Tree;

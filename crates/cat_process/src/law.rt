@@ -2,7 +2,7 @@
 ghost use Rattle.std.specs.Prelude.{◌≡◌, List, [], true, Some};
 ghost use Rattle.std.specs.List.{list_any};
 ghost use Rattle.cat_tree.specs.Data.{Data};
-ghost use Rattle.cat_table.specs.Table.{Text, Map, same_text, get};
+ghost use Rattle.cat_collections.specs.Table.{Text, Map, same_text, get};
 ghost use Rattle.cat_types.specs.declared.input.Offered.{Offered};
 ghost use Rattle.cat_types.specs.declared.issue.Issue.{Issue};
 ghost use Rattle.cat_types.specs.declared.work.Output.{Output};

@@ -8,10 +8,10 @@ use Rattle.std.specs.Ordering.{eq_by_cmp, is_eq, is_lt}
 use Rattle.std.specs.FinMap.Entries.{find-put, is_sorted, below_all}
 use Rattle.std.proofs.lemmas.List.Sums.{sum_by-cons}
 use Rattle.std.proofs.lemmas.Map.Text.{is_eq-slice_cmp}
-use Rattle.cat_table.specs.Table.{Map, get, keys, tabulate, text_cmp, text_total, text_antisymmetric}
-use Rattle.cat_table.specs.Order.{in_order}
-use Rattle.cat_table.proofs.Tables.{find-tabulate, is_sorted-tabulate, same_is}
-use Rattle.cat_table.proofs.Rising.{from_T}
+use Rattle.cat_collections.specs.Table.{Map, get, keys, tabulate, text_cmp, text_total, text_antisymmetric}
+use Rattle.cat_collections.specs.Order.{in_order}
+use Rattle.cat_collections.proofs.Tables.{find-tabulate, is_sorted-tabulate, same_is}
+use Rattle.cat_collections.proofs.Rising.{from_T}
 use Rattle.cat_query.specs.Facets.{all_more, counted, counts, how_many, one_more}
 
 -- the number at a text

@@ -1,7 +1,7 @@
 -- The answers that show documents, as JSON.
 use Rattle.std.specs.Prelude.{◌≡◌, ℕ, pos, List, [], ◌∷◌, length, take, map, codes, Option, Some, None}
 use Rattle.cat_tree.specs.Data.{Data, null, whole, words, list, dict, no_members, member, items_of}
-use Rattle.cat_table.specs.Table.{get}
+use Rattle.cat_collections.specs.Table.{get}
 use Rattle.cat_pages.specs.Page.{Pair, Ranked, matching, following, page_items, next_after, total_of}
 use Rattle.cat_query.specs.Project.{Path, projected}
 use Rattle.cat_query.specs.Cursor.{cursor_text}

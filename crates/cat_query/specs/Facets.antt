@@ -3,9 +3,9 @@ use Rattle.std.specs.Prelude.{ℕ, suc, pos, List, [], ◌∷◌, map, codes, by
 use Rattle.std.specs.List.{list_any, count_by}
 use Rattle.std.specs.Option.{unwrap_or}
 use Rattle.cat_tree.specs.Data.{Data, whole, words, list, dict, no_members, member, items_of, members_of}
-use Rattle.cat_table.specs.Table.{Map, get, put, text_cmp}
-use Rattle.cat_table.specs.Order.{in_order}
-use Rattle.cat_values.specs.Rows.{document_rows, values_at}
+use Rattle.cat_collections.specs.Table.{Map, get, put, text_cmp}
+use Rattle.cat_collections.specs.Order.{in_order}
+use Rattle.cat_state_parts.specs.Rows.{document_rows, values_at}
 use Rattle.cat_search.specs.declared.condition.Condition.{Condition}
 use Rattle.cat_pages.specs.Page.{Pair, matching}
 

@@ -1,6 +1,6 @@
 //! What is asked of a catalogue.
+use cat_collections::listing::Listing;
 use cat_pages::query::Query;
-use cat_table::listing::Listing;
 use cat_tree::text::Text;
 use cat_types::reference::Ref;
 

@@ -2,18 +2,18 @@
 ghost use Rattle.std.specs.Prelude.{◌≡◌, ◌≢◌, ◌⊎◌, ℕ, List, [], IfOk, IfErr, OnOk, Some, map};
 ghost use Rattle.std.specs.Option.{unwrap_or};
 ghost use Rattle.cat_tree.specs.Data.{items_of, list};
-ghost use Rattle.cat_values.specs.Rows.{document_rows, values_at};
-ghost use Rattle.cat_table.specs.Order.{in_order};
+ghost use Rattle.cat_state_parts.specs.Rows.{document_rows, values_at};
+ghost use Rattle.cat_collections.specs.Order.{in_order};
 ghost use Rattle.cat_tree.specs.View.{data_of, entry_of};
-ghost use Rattle.cat_table.specs.Table.{get, keys, tabulate, text_cmp};
+ghost use Rattle.cat_collections.specs.Table.{get, keys, tabulate, text_cmp};
 ghost use Rattle.cat_pages.specs.Page.{pair_seen};
 ghost use Rattle.cat_query.specs.Facets.{all_more, count_data, counts, facet_data, facet_map, facets_data, how_many, one_more, values_among};
 
+use cat_collections::listing::Copied;
+use cat_collections::map::Map;
 use cat_pages::documents::Documents;
 use cat_pages::query::Query;
 use cat_search::values::values_at;
-use cat_table::listing::Copied;
-use cat_table::map::Map;
 use cat_tree::text::Text;
 use cat_tree::tree::{Pairs, Tree, Trees};
 use cat_types::reference::Ref;

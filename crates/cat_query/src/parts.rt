@@ -7,11 +7,11 @@ ghost use Rattle.cat_search.specs.Filter.{filter_of, pieces};
 ghost use Rattle.cat_query.specs.Query.{directed, fault_in, fields_of, filters_from, is_limit, limit_among, number_of, order_among, order_of};
 
 use crate::fault::QueryFault;
+use cat_collections::listing::Listing;
 use cat_pages::query::OrderBy;
 use cat_search::condition::{Filter, FilterFault};
 use cat_search::pieces::next_piece;
 use cat_search::read::read_filter;
-use cat_table::listing::Listing;
 use cat_tree::text::Text;
 use std::alloc::{AllocError, Global};
 

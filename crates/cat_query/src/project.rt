@@ -4,7 +4,7 @@ ghost use Rattle.cat_tree.specs.Data.{IsRising, members_of};
 ghost use Rattle.cat_tree.specs.View.{data_of, entry_of};
 ghost use Rattle.cat_query.specs.Project.{below, entry_kept, filled, has_end, projected, reached};
 
-use cat_table::listing::Listing;
+use cat_collections::listing::Listing;
 use cat_tree::clone::copy;
 use cat_tree::text::Text;
 use cat_tree::tree::{Pairs, Tree};

@@ -8,9 +8,9 @@ use crate::cursor::cursor;
 use crate::fault::QueryFault;
 use crate::parameters::{parameters, values_named};
 use crate::parts::{copies, fields, filters, limit, order};
+use cat_collections::listing::Listing;
 use cat_pages::query::{Cursor, OrderBy, Query};
 use cat_search::condition::Filter;
-use cat_table::listing::Listing;
 use cat_tree::text::Text;
 use std::alloc::{AllocError, Global};
 

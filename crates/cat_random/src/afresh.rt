@@ -1,7 +1,7 @@
 //! Documents beside those that a plain program computes from scratch.
-use cat_fresh::documents::documents_afresh;
 use cat_layers::layered::Layered;
 use cat_model::types::State;
+use cat_recompute::documents::documents_afresh;
 use std::alloc::{AllocError, Global};
 
 /// Whether the documents, but for those of orphans, are just those computed afresh.

@@ -3,7 +3,7 @@
 //! A case `session drawn` (cat_case) has a seed and how many events. They are mutations by two providers, texts of a shelf, refreshes, entities that
 //! are forgotten, results and documents that workers bring, and settles, about some forty references, so that they meet: rows wait
 //! for one that holds, Locations offer each other in a circle, texts break off, and what nobody offers any more is an orphan; with an even
-//! seed it is deleted. After each settle the documents are compared with those that the plain program of `cat_fresh` computes from
+//! seed it is deleted. After each settle the documents are compared with those that the plain program of `cat_recompute` computes from
 //! scratch. The answer has the seed, how many events acted, were refused and were settles, how many documents and orphans are there at the
 //! end, and `fresh`, or `differs` where one settle left other documents. It promises nothing.
 #![tactic(auto)]

@@ -5,7 +5,7 @@ use Rattle.std.specs.Prelude.{Result, Ok, Err, Option, OnOk, is_ok}
 use Rattle.std.specs.FinMap.Entries.{by_order}
 use Rattle.std.specs.declared.cmp.Ordering.TheVariants.{Less, Equal, Greater}
 use Rattle.std.proofs.Math.Seq.{drop-cons}
-use Rattle.cat_table.specs.Table.{put, put_some, tabulate}
+use Rattle.cat_collections.specs.Table.{put, put_some, tabulate}
 use Rattle.cat_model.specs.declared.types.Row.{Row}
 use Rattle.cat_model.specs.Reply.{RowPlace, place_cmp}
 use Rattle.cat_replies.specs.declared.conflicts.Place.{Place}

@@ -7,7 +7,7 @@ use Rattle.std.specs.declared.result.Result.TheVariants.{Ok, Err}
 use Rattle.std.specs.Option.{option_and_then}
 use Rattle.cat_tree.specs.Data.{Data}
 use Rattle.cat_tree.specs.Text.{text_of}
-use Rattle.cat_table.specs.Table.{get}
+use Rattle.cat_collections.specs.Table.{get}
 use Rattle.cat_query.specs.Answers.{facets_answer, list_data, many_data, page_data}
 use Rattle.cat_query.specs.declared.ask.Ask.{Ask}
 use Rattle.cat_query.specs.declared.ask.Ask.TheVariants as ask

@@ -2,7 +2,7 @@
 use Rattle.std.specs.Prelude.{ℕ, Bool, List, [], ◌∷◌, ◌++◌, map, codes}
 use Rattle.std.specs.List.{filter, list_any}
 use Rattle.cat_tree.specs.Data.{Data, words, list, dict, items_of, members_of}
-use Rattle.cat_table.specs.Table.{Map}
+use Rattle.cat_collections.specs.Table.{Map}
 use Rattle.cat_stitch.specs.Issues.{items_of_issues}
 use Rattle.cat_model.specs.Catalogue.{Ref}
 use Rattle.cat_model.specs.declared.types.Orphan.{Orphan}

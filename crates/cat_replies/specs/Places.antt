@@ -6,7 +6,7 @@ use Rattle.std.specs.declared.cmp.Ordering.TheVariants.{Less, Equal, Greater}
 use Rattle.std.specs.Ordering.{is_gt, is_lt, nat_cmp, ordering_then}
 use Rattle.std.specs.Cmp.{IsTotalOrder, nat_cmp_total, on_total, then_total}
 use Rattle.std.specs.FinMap.{IsAntisymmetric, nat_cmp-IsAntisymmetric}
-use Rattle.cat_table.specs.Table.{text_antisymmetric, text_cmp, text_total}
+use Rattle.cat_collections.specs.Table.{text_antisymmetric, text_cmp, text_total}
 use Rattle.cat_model.specs.Reply.{RowPlace, place_cmp}
 use Rattle.cat_replies.specs.declared.conflicts.Place.{Place}
 

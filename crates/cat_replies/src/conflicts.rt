@@ -2,14 +2,14 @@
 ghost use Rattle.std.specs.Prelude.{◌≡◌, ◌++◌, IfOk, OnOk, map, option_map};
 ghost use Rattle.cat_model.specs.Catalogue.{holding, row_at};
 ghost use Rattle.cat_model.specs.Reply as spec;
-ghost use Rattle.cat_table.specs.Table.{put_some};
+ghost use Rattle.cat_collections.specs.Table.{put_some};
 ghost use Rattle.cat_replies.specs.Shown as seen;
 
+use cat_collections::key::Key;
+use cat_collections::listing::Copied;
+use cat_collections::map::Map;
 use cat_model::rows::IndexedRows;
 use cat_model::types::{Row, State};
-use cat_table::key::Key;
-use cat_table::listing::Copied;
-use cat_table::map::Map;
 use cat_types::reference::Ref;
 use std::alloc::{AllocError, Global};
 use std::cmp::Ordering;

@@ -8,11 +8,11 @@ ghost use Rattle.cat_replies.specs.Lists as spec;
 ghost use Rattle.cat_replies.specs.Shown as seen;
 
 use crate::conflicts::{Conflict, conflicts};
+use cat_collections::map::Map;
 use cat_model::records::Records;
 use cat_model::types::{Origin, Orphan, Record, Row, State};
 use cat_stitch::issues::issue_items;
 use cat_stitch::make::{empty_map, with_words, words};
-use cat_table::map::Map;
 use cat_tree::edit::with_key;
 use cat_tree::tree::{Tree, Trees};
 use cat_tree::write::write;

@@ -5,7 +5,7 @@ use Rattle.cat_tree.specs.declared.read.TreeFault.{TreeFault}
 use Rattle.cat_types.specs.Reference.{parsed, text_at}
 use Rattle.cat_types.specs.declared.fault.RefFault.{RefFault}
 use Rattle.cat_search.specs.Filter.{pieces}
-use Rattle.cat_table.specs.Table.{Text}
+use Rattle.cat_collections.specs.Table.{Text}
 use Rattle.cat_inputs.specs.Body.{each_from, field, texts_in}
 use Rattle.cat_inputs.specs.Faults.{json_fault}
 use Rattle.cat_inputs.specs.Reading.{tree_reading}

@@ -4,7 +4,7 @@ use Rattle.std.specs.List.{starts_with}
 use Rattle.std.specs.Str.{is_utf8}
 use Rattle.percent_encoding.specs.Percent.{percent_decode}
 use Rattle.cat_types.specs.Reading.{cut}
-use Rattle.cat_table.specs.Table.{Text}
+use Rattle.cat_collections.specs.Table.{Text}
 use Rattle.cat_inputs.specs.declared.form.Form.{Form}
 use Rattle.cat_inputs.specs.declared.form.Form.TheVariants.{Full, Delta}
 use Rattle.cat_requests.specs.declared.path.Fixed.{Fixed}

@@ -3,7 +3,7 @@ use Rattle.std.specs.Prelude.{⊤, IsTrue, ℕ, List, [], ◌∷◌, ◌++◌, O
 use Rattle.cat_types.specs.Names.{is_name, is_shelf_name}
 use Rattle.cat_types.specs.Reference.{parsed}
 use Rattle.cat_types.specs.declared.fault.RefFault.{RefFault}
-use Rattle.cat_table.specs.Table.{Text as Words}
+use Rattle.cat_collections.specs.Table.{Text as Words}
 use Rattle.cat_types.specs.declared.input.Mutation.{Mutation}
 use Rattle.cat_feed.specs.declared.change.Since.{Since}
 use Rattle.cat_feed.specs.Place.{since_of}
@@ -16,8 +16,8 @@ use Rattle.cat_query.specs.declared.ask.Ask.{Ask}
 use Rattle.cat_query.specs.declared.ask.Ask.TheVariants as ask
 use Rattle.cat_query.specs.declared.fault.QueryFault.{QueryFault}
 use Rattle.cat_pages.specs.declared.query.Query.{Query}
-use Rattle.cat_commands.specs.Arguments.{utf8_in}
-use Rattle.cat_commands.specs.Queries.{query_of}
+use Rattle.cat_session_lines.specs.Arguments.{utf8_in}
+use Rattle.cat_session_lines.specs.Queries.{query_of}
 use Rattle.cat_http.specs.declared.message.Message.{Message}
 use Rattle.cat_requests.specs.Bodies.{many_of, reference_of}
 use Rattle.cat_requests.specs.Paths.{resource_of}

@@ -8,11 +8,11 @@ ghost use Rattle.cat_inputs.specs.Body.{texts_from, texts_in};
 ghost use Rattle.cat_requests.specs.Bodies as spec;
 
 use crate::refusal::{Refusal, input_refusal};
+use cat_collections::listing::Listing;
 use cat_inputs::fault::{InputFault, Place, json_fault};
 use cat_inputs::text::read_tree;
 use cat_query::ask::Ask;
 use cat_search::pieces::next_piece;
-use cat_table::listing::Listing;
 use cat_tree::ask::child;
 use cat_tree::text::Text;
 use cat_tree::tree::Tree;

@@ -4,7 +4,7 @@
 //! body, the first that doesn't fit. What is answered becomes the status, the body and the methods of a reply. The crate
 //! promises that both are what definitions compute from the message and the answer. It knows nothing of a catalogue.
 //!
-//! It stands on cat_http for messages and replies, on cat_inputs for the bodies of mutations, on cat_commands and cat_query
+//! It stands on cat_http for messages and replies, on cat_inputs for the bodies of mutations, on cat_session_lines and cat_query
 //! for queries, on cat_feed and cat_feed for places of a feed, on cat_types for names and references, and on `percent_encoding` for the pieces of paths.
 #![tactic(auto)]
 

@@ -1,7 +1,7 @@
 -- Counts of relations, which stand still at the greatest number of 64 bits.
 use Rattle.std.proofs.Common.{◌≡◌, ℕ, ◌+◌, ◌<◌, ◌^◌, [], ◌∷◌, ap, ◌∙◌, arith}
 use Rattle.cat_tree.specs.Data.{Data}
-use Rattle.cat_table.specs.Table.{Map}
+use Rattle.cat_collections.specs.Table.{Map}
 use Rattle.cat_sample.specs.Summary.{capped, item_count, relation_count, relations_of}
 
 capped_begun : (n : ℕ) → capped (0 + capped n) ≡ capped n

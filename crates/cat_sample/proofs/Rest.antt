@@ -5,7 +5,7 @@ use Rattle.std.proofs.lemmas.List.{append_assoc, map-append}
 use Rattle.cat_tree.specs.Data.{Data, items_of}
 use Rattle.cat_tree.specs.View.{data_of}
 use Rattle.cat_tree.specs.declared.tree.Tree.{Tree}
-use Rattle.cat_table.specs.Table.{Map, Text}
+use Rattle.cat_collections.specs.Table.{Map, Text}
 use Rattle.cat_replies.specs.Piece.{piece_text}
 use Rattle.cat_replies.specs.declared.line.Piece.{Piece}
 use Rattle.cat_sample.specs.Sample.{component_tree, components, drawn, group_tree, groups, item_of, next_seed, numbered}

@@ -5,7 +5,7 @@ use Rattle.cat_tree.specs.Data.{Data, words, list, dict, no_items, item, members
 use Rattle.cat_tree.specs.Edit.{with_key}
 use Rattle.cat_types.specs.Reference.{described}
 use Rattle.cat_types.specs.declared.fault.RefFault.{RefFault}
-use Rattle.cat_table.specs.Table.{Text}
+use Rattle.cat_collections.specs.Table.{Text}
 use Rattle.cat_types.specs.declared.input.Item.{Item}
 use Rattle.cat_types.specs.declared.input.Mutation.{Mutation}
 use Rattle.cat_types.specs.declared.input.Mutation.TheVariants.{Full}

@@ -4,7 +4,7 @@ use Rattle.std.specs.Fmt.{decimal}
 use Rattle.cat_tree.specs.Ask.{child_of}
 use Rattle.cat_tree.specs.Data.{Data, null, flag, whole, words, list, dict, Items, no_items, item}
 use Rattle.cat_types.specs.Reference.{text_at}
-use Rattle.cat_table.specs.Table.{Text, Map}
+use Rattle.cat_collections.specs.Table.{Text, Map}
 use Rattle.cat_model.specs.Catalogue.{Rules}
 use Rattle.cat_model.specs.Reply.{counts}
 use Rattle.cat_model.specs.declared.types.Counts.{Counts}

@@ -4,8 +4,8 @@ ghost use Rattle.cat_tree.specs.Data.{dict, members_of};
 ghost use Rattle.cat_tree.specs.View.{data_of};
 ghost use Rattle.cat_sample.specs.Sample as made;
 
+use cat_collections::listing::Listing;
 use cat_stitch::make::{empty_map, with_words, words};
-use cat_table::listing::Listing;
 use cat_tree::edit::with_key;
 use cat_tree::text::Text;
 use cat_tree::tree::{Tree, Trees};

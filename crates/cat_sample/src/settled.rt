@@ -10,8 +10,8 @@ ghost use Rattle.cat_sample.specs.Summary.{sample_line};
 use crate::generate::mutation;
 use crate::summary::summary;
 use cat_core::catalogue::Catalogue;
-use cat_hold::layers::Layers;
 use cat_model::types::{Counts, Settings};
+use cat_plan::layers::Layers;
 use cat_tree::text::Text;
 use std::alloc::{AllocError, Global};
 

@@ -6,9 +6,9 @@ ghost use Rattle.cat_replies.specs.Piece.{piece_text};
 ghost use Rattle.cat_sample.specs.Summary as told;
 
 use crate::generate::{GROUPS, numbered};
+use cat_collections::map::Map;
 use cat_model::types::Counts;
 use cat_replies::line::{Piece, push_line};
-use cat_table::map::Map;
 use cat_tree::ask::child;
 use cat_tree::tree::Tree;
 use cat_types::node::Node;

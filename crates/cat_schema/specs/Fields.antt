@@ -2,7 +2,7 @@
 use Rattle.std.specs.Prelude.{List, [], ◌∷◌, Bool, true, false, Option, Some, None, codes}
 use Rattle.std.specs.List.{list_any}
 use Rattle.std.specs.Option.{option_copied}
-use Rattle.cat_table.specs.Table.{Text}
+use Rattle.cat_collections.specs.Table.{Text}
 use Rattle.cat_types.specs.declared.relation.RelKind.{RelKind}
 use Rattle.cat_types.specs.declared.relation.RelKind.TheVariants.{OwnedBy, OwnerOf, PartOf, HasPart, ProvidesApi, ApiProvidedBy, ConsumesApi, ApiConsumedBy, DependsOn, DependencyOf, ChildOf, ParentOf, HasMember, MemberOf}
 use Rattle.cat_schema.specs.declared.field.RefField.{RefField}

@@ -5,8 +5,8 @@ use Rattle.std.specs.Ordering.{is_gt, is_lt, ordering_reverse}
 use Rattle.std.specs.Cmp.{tied_itself}
 use Rattle.std.specs.FinMap.Entries.{below_all, is_sorted}
 use Rattle.cat_tree.specs.Data.{Data}
-use Rattle.cat_table.specs.Places.{first_from}
-use Rattle.cat_table.specs.Table.{Map, keys, text_cmp, text_total}
+use Rattle.cat_collections.specs.Places.{first_from}
+use Rattle.cat_collections.specs.Table.{Map, keys, text_cmp, text_total}
 use Rattle.cat_search.specs.Filter.{is_accepted, matching}
 use Rattle.cat_search.specs.Index.{Set, accepts_all, documents_of, found}
 use Rattle.cat_search.specs.declared.condition.Condition.{Condition}

@@ -6,15 +6,15 @@ use Rattle.std.specs.Ordering.{eq_by_cmp, is_eq, ordering_then, is_lt}
 use Rattle.std.specs.FinMap.Entries.{find-put, find-where_key, is_sorted, is_sorted-where_key, below_all, same_entries}
 use Rattle.std.proofs.lemmas.Map.Text.{is_eq-slice_cmp}
 use Rattle.cat_tree.specs.Data.{Data}
-use Rattle.cat_table.specs.Rows.{without}
-use Rattle.cat_table.specs.Table.{Map, get, keys, put, puts, text_cmp, text_total, text_antisymmetric}
-use Rattle.cat_table.proofs.Rising.{puts_rise, from_T}
-use Rattle.cat_values.specs.Rows.{Row, folded, same_text, fits, has_row, document_rows}
+use Rattle.cat_collections.specs.Rows.{without}
+use Rattle.cat_collections.specs.Table.{Map, get, keys, put, puts, text_cmp, text_total, text_antisymmetric}
+use Rattle.cat_collections.proofs.Rising.{puts_rise, from_T}
+use Rattle.cat_state_parts.specs.Rows.{Row, folded, same_text, fits, has_row, document_rows}
 use Rattle.cat_search.specs.Filter.{holds, key_holds, accepts, is_match, is_accepted}
 use Rattle.cat_search.specs.Terms.{term, condition_term, terms, document_terms}
 use Rattle.cat_search.specs.Index.{Set, Lists, has, term_cmp, set_at, has_term, AreLists, AgreeBeyond, union, in_all, common, at_key, by_key, accepted, all_accepted, is_accepted_at, corrected_at, corrected, found, has_free, accepts_all}
 use Rattle.cat_search.specs.declared.condition.Condition.{Condition}
-use Rattle.cat_values.proofs.Waiting.{same, text_is, has-put, has-without, either_false, longer}
+use Rattle.cat_state_parts.proofs.Waiting.{same, text_is, has-put, has-without, either_false, longer}
 
 pub to_T : (b : Bool) → b ≡ true → T b
 to_T true h = tt

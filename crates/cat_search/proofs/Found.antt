@@ -9,7 +9,7 @@ use Rattle.std.proofs.lemmas.Slice.Eq.{bytes_eq-Decides}
 use Rattle.std.proofs.Math.Seq.{take-append_seam}
 use Rattle.cat_tree.specs.Ask.{child_of}
 use Rattle.cat_tree.specs.Data.{Data, null, flag, whole, words, list, dict, Items, no_items, item, Members, no_members, member}
-use Rattle.cat_values.specs.Rows.{folded, same_text, is_empty, step, under, flag_text, tag_rows, rows, item_rows, member_rows, value_fits, fits, has_row, own_part, relation_rows, document_rows}
+use Rattle.cat_state_parts.specs.Rows.{folded, same_text, is_empty, step, under, flag_text, tag_rows, rows, item_rows, member_rows, value_fits, fits, has_row, own_part, relation_rows, document_rows}
 use Rattle.cat_search.specs.Walk.{begins, is_tag, is_found, is_found_in_items, is_found_in_members}
 
 -- ---- tests

@@ -12,11 +12,11 @@ use Rattle.std.specs.FinMap.Entries.{find-put}
 use Rattle.std.specs.Cmp.{IsTotalOrder}
 use Rattle.std.specs.FinMap.{IsAntisymmetric}
 use Rattle.cat_tree.specs.Data.{Data}
-use Rattle.cat_table.specs.Pairs.{pair_total, pair_antisymmetric}
-use Rattle.cat_table.specs.Rows.{without}
-use Rattle.cat_table.specs.Table.{Map, find, get, keys, put, text_cmp, text_total, text_antisymmetric}
-use Rattle.cat_table.proofs.Tables.{same_is}
-use Rattle.cat_values.proofs.Waiting.{find-without, got, has-put, has-without, longer, same, text_is}
+use Rattle.cat_collections.specs.Pairs.{pair_total, pair_antisymmetric}
+use Rattle.cat_collections.specs.Rows.{without}
+use Rattle.cat_collections.specs.Table.{Map, find, get, keys, put, text_cmp, text_total, text_antisymmetric}
+use Rattle.cat_collections.proofs.Tables.{same_is}
+use Rattle.cat_state_parts.proofs.Waiting.{find-without, got, has-put, has-without, longer, same, text_is}
 use Rattle.cat_search.specs.Index.{Set, Lists, Posting, has, term_cmp, set_at, terms_at, has_term, has_posting, postings, AreLists, AreEntered, AreStruck, AgreeBeyond, with_document, with_documents, with_references, without_references, with_set, entered, struck}
 use Rattle.cat_search.specs.Terms.{Term, document_terms}
 

@@ -6,7 +6,7 @@ use Rattle.std.specs.List.{filter}
 use Rattle.std.proofs.lemmas.List.{append-nil, map-append}
 use Rattle.cat_tree.specs.Ask.{child_of}
 use Rattle.cat_tree.specs.Data.{Data, null, flag, whole, words, list, dict, Items, no_items, item, Members, no_members, member}
-use Rattle.cat_values.specs.Rows.{Row, folded, same_text, is_empty, step, under, flag_text, tag_rows, rows, item_rows, member_rows, own_part, relation_rows, document_rows, values_at}
+use Rattle.cat_state_parts.specs.Rows.{Row, folded, same_text, is_empty, step, under, flag_text, tag_rows, rows, item_rows, member_rows, own_part, relation_rows, document_rows, values_at}
 use Rattle.cat_search.specs.Walk.{begins, kept, tag_values, values_found, values_in_items, values_in_members}
 use Rattle.cat_search.proofs.Found.{IsApart, path_is_key, without_path, not_the_path, apart_under, empty_under, key_under, apart_from}
 

@@ -2,7 +2,7 @@
 use Rattle.std.specs.Prelude.{ℕ, suc, ◌==◌, nat_lt, List, [], ◌∷◌, ◌++◌, length, Bool, ◌&&◌, ◌||◌, Option, Some, None, Result, Ok, Err, reverse, if◌then◌else◌}
 use Rattle.std.specs.List.{filter, list_any, list_all, slice_split, position_or_len, before_first, after_first}
 use Rattle.cat_tree.specs.Data.{Data}
-use Rattle.cat_values.specs.Rows.{Row, same_text, has_row, document_rows}
+use Rattle.cat_state_parts.specs.Rows.{Row, same_text, has_row, document_rows}
 use Rattle.cat_search.specs.declared.condition.Condition.{Condition}
 use Rattle.cat_search.specs.declared.condition.FilterFault.{FilterFault}
 use Rattle.cat_search.specs.declared.condition.FilterFault.TheVariants.{EmptyKey}

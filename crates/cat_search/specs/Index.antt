@@ -3,11 +3,11 @@ use Rattle.std.specs.Prelude.{◌≡◌, ℕ, List, [], ◌∷◌, length, map, 
 use Rattle.std.specs.List.{filter, filter_map, flat_map, list_any, list_all}
 use Rattle.std.specs.Ordering.{eq_by_cmp}
 use Rattle.cat_tree.specs.Data.{Data}
-use Rattle.cat_table.specs.Places.{first_from}
-use Rattle.cat_table.specs.Rows.{without}
-use Rattle.cat_table.specs.Table.{Map, get, keys, put, puts, text_cmp}
-pub use Rattle.cat_values.specs.Index.{Set, has, Lists, term_cmp, set_at, terms_at, has_term, AreLists, AgreeBeyond, with_document}
-use Rattle.cat_values.specs.Rows.{folded}
+use Rattle.cat_collections.specs.Places.{first_from}
+use Rattle.cat_collections.specs.Rows.{without}
+use Rattle.cat_collections.specs.Table.{Map, get, keys, put, puts, text_cmp}
+pub use Rattle.cat_state_parts.specs.Index.{Set, has, Lists, term_cmp, set_at, terms_at, has_term, AreLists, AgreeBeyond, with_document}
+use Rattle.cat_state_parts.specs.Rows.{folded}
 use Rattle.cat_search.specs.Filter.{is_accepted, matching}
 use Rattle.cat_search.specs.Terms.{Term, condition_term}
 use Rattle.cat_search.specs.declared.condition.Condition.{Condition}

@@ -2,7 +2,7 @@
 use Rattle.std.specs.Prelude.{ℕ, List, [], ◌∷◌, ◌++◌, Bool, false, ◌||◌, ◌&&◌, Option, Some, None, length, take, drop, codes, if◌then◌else◌}
 use Rattle.std.specs.Fmt.{signed_decimal}
 use Rattle.cat_tree.specs.Data.{Data, null, flag, whole, words, list, dict, Items, no_items, item, Members, no_members, member}
-use Rattle.cat_values.specs.Rows.{same_text, step, is_empty, flag_text, value_fits}
+use Rattle.cat_state_parts.specs.Rows.{same_text, step, is_empty, flag_text, value_fits}
 
 -- the text begins with the front in lower case
 abbrev pub begins : List ℕ → List ℕ → Bool

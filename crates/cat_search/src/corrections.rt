@@ -5,7 +5,7 @@ ghost use Rattle.cat_search.specs.Index.{corrected, corrected_at, is_accepted_at
 use crate::condition::Filter;
 use crate::matches::is_accepted;
 use crate::sets::Set;
-use cat_table::map::Map;
+use cat_collections::map::Map;
 use cat_types::node::Node;
 use cat_types::reference::Ref;
 use std::alloc::{AllocError, Global};

@@ -5,7 +5,7 @@ ghost use Rattle.cat_tree.specs.Ask.{child_of};
 ghost use Rattle.cat_tree.specs.Data.{members_of};
 ghost use Rattle.cat_tree.specs.View.{data_of, entry_of};
 ghost use Rattle.cat_types.specs.Reference.{text_at};
-ghost use Rattle.cat_values.specs.Rows.{is_added, is_empty, own_members, own_part, relation_row, relation_rows, document_rows, has_row, same_text, step};
+ghost use Rattle.cat_state_parts.specs.Rows.{is_added, is_empty, own_members, own_part, relation_row, relation_rows, document_rows, has_row, same_text, step};
 ghost use Rattle.cat_search.specs.Walk.{begins, is_found, is_found_in_members};
 
 use crate::folded::{left_of, left_of_step, same_text};

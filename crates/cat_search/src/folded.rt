@@ -1,7 +1,7 @@
 //! Texts in lower case, in ASCII alone.
 ghost use Rattle.std.specs.Prelude.{◌≡◌, ◌^◌, ◌<◌, ◌++◌, ◌∷◌, length, codes, IfOk};
 ghost use Rattle.std.specs.Option.{option_copied};
-ghost use Rattle.cat_values.specs.Rows.{folded, same_text, step};
+ghost use Rattle.cat_state_parts.specs.Rows.{folded, same_text, step};
 ghost use Rattle.cat_search.specs.Walk.{left_of};
 
 use cat_tree::text::Text;

@@ -1,6 +1,6 @@
 //! Which documents an index lists, and which ones filters find in it.
 ghost use Rattle.std.specs.Prelude.{◌≡◌, ◌∷◌, [], IfOk, OnOk, length, map, unwrap_or};
-ghost use Rattle.cat_table.specs.Table.{get};
+ghost use Rattle.cat_collections.specs.Table.{get};
 ghost use Rattle.cat_search.specs.Filter.{matching};
 ghost use Rattle.cat_search.specs.Index.{AreEntered, AreLists, AreStruck, accepted, accepts_all, all_accepted, at_key, by_key, documents_of, entered, found, has_free, set_at, struck, union, with_condition, with_document, with_documents, with_set, without_references};
 ghost use Rattle.cat_search.specs.Terms.{condition_term};
@@ -11,12 +11,12 @@ use crate::folded::lower;
 use crate::postings::{Entry, Posting, first_entries, postings, split_run, with_run, without_run};
 use crate::sets::{common, union};
 use crate::terms::condition_term;
-use cat_table::listing::Copied;
-use cat_table::map::Map;
+use cat_collections::listing::Copied;
+use cat_collections::map::Map;
+pub use cat_state_parts::index::{Index, IndexParts, Lists, Set, Term};
 use cat_tree::text::Text;
 use cat_types::node::Node;
 use cat_types::reference::Ref;
-pub use cat_values::index::{Index, IndexParts, Lists, Set, Term};
 use std::alloc::{AllocError, Global};
 
 /// Lists at most so many of the documents that wait, in order of reference. The references under a term change once for all

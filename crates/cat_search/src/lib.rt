@@ -12,7 +12,7 @@
 //!
 //! The promise: a filter is read as its text says, a refusal names the first condition without a key, `matches` answers
 //! exactly whether a document's rows meet the filter, without memory, and the index finds just the documents that `matches`
-//! accepts. It stands on cat_values for the index, and on the shared maps of cat_table.
+//! accepts. It stands on cat_state_parts for the index, and on the shared maps of cat_collections.
 #![tactic(auto)]
 
 pub mod condition;

@@ -3,7 +3,7 @@ ghost use Rattle.std.specs.Prelude.{◌≡◌, option_map};
 ghost use Rattle.std.specs.List.{list_any};
 ghost use Rattle.cat_tree.specs.View.{data_of};
 ghost use Rattle.cat_search.specs.Filter.{holds, key_holds, is_accepted, is_match};
-ghost use Rattle.cat_values.specs.Rows.{document_rows, same_text};
+ghost use Rattle.cat_state_parts.specs.Rows.{document_rows, same_text};
 
 use crate::condition::{Condition, Filter};
 use crate::document::has_row;

@@ -3,13 +3,13 @@ ghost use Rattle.std.specs.Prelude.{◌≡◌, ◌++◌, ◌≤◌, IfOk, IsTrue
 ghost use Rattle.std.specs.List.{list_all};
 ghost use Rattle.std.specs.List.Sorted.{IsPermutation};
 ghost use Rattle.std.specs.Ordering.{eq_by_cmp, nat_cmp, ordering_then};
-ghost use Rattle.cat_table.specs.Table.{keys, put, text_cmp};
+ghost use Rattle.cat_collections.specs.Table.{keys, put, text_cmp};
 ghost use Rattle.cat_search.specs.Index.{postings, term_cmp, terms_at, with_references, without_references};
 
 use crate::sets::Set;
 use crate::terms::{Term, document_terms};
-use cat_table::key::Key;
-use cat_table::map::Map;
+use cat_collections::key::Key;
+use cat_collections::map::Map;
 use cat_types::node::Node;
 use cat_types::reference::Ref;
 use std::alloc::{AllocError, Global};

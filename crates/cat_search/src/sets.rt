@@ -3,9 +3,9 @@ ghost use Rattle.std.specs.Prelude.{◌≡◌, ◌<◌, ◌∷◌, [], IfOk, len
 ghost use Rattle.std.specs.List.{filter};
 ghost use Rattle.cat_search.specs.Index.{common, has, in_all, union};
 
-use cat_table::map::Map;
+use cat_collections::map::Map;
+pub use cat_state_parts::index::Set;
 use cat_types::reference::Ref;
-pub use cat_values::index::Set;
 use std::alloc::{AllocError, Global};
 
 /// Whether the reference is in the set.

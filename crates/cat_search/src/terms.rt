@@ -4,16 +4,16 @@ ghost use Rattle.std.specs.Fmt.{signed_decimal};
 ghost use Rattle.cat_tree.specs.Ask.{child_of};
 ghost use Rattle.cat_tree.specs.Data.{members_of};
 ghost use Rattle.cat_tree.specs.View.{data_of};
-ghost use Rattle.cat_values.specs.Rows.{document_rows, member_rows, own_members, own_part, relation_row, relation_rows, rows, tag_rows, under};
+ghost use Rattle.cat_state_parts.specs.Rows.{document_rows, member_rows, own_members, own_part, relation_row, relation_rows, rows, tag_rows, under};
 ghost use Rattle.cat_search.specs.Terms.{behind, condition_term, document_terms, row_terms, terms};
 
 use crate::condition::Condition;
 use crate::document::{is_added, text_at};
 use crate::folded::lower;
+pub use cat_state_parts::index::Term;
 use cat_tree::ask::child;
 use cat_tree::text::Text;
 use cat_tree::tree::{Pairs, Tree};
-pub use cat_values::index::Term;
 use std::alloc::{AllocError, Global};
 
 // `=` and the value in lower case.

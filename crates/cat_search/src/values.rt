@@ -4,7 +4,7 @@ ghost use Rattle.std.specs.Fmt.{signed_decimal};
 ghost use Rattle.cat_tree.specs.Ask.{child_of};
 ghost use Rattle.cat_tree.specs.Data.{members_of};
 ghost use Rattle.cat_tree.specs.View.{data_of};
-ghost use Rattle.cat_values.specs.Rows.{is_empty, own_members, own_part, relation_row, relation_rows, document_rows, step, values_at};
+ghost use Rattle.cat_state_parts.specs.Rows.{is_empty, own_members, own_part, relation_row, relation_rows, document_rows, step, values_at};
 ghost use Rattle.cat_search.specs.Walk.{begins, kept, tag_values, values_found, values_in_members};
 
 use crate::document::{is_added, is_named, text_at};

@@ -4,7 +4,7 @@ ghost use Rattle.std.specs.Fmt.{signed_decimal};
 ghost use Rattle.std.specs.Option.{option_copied};
 ghost use Rattle.cat_tree.specs.Data.{items_of, members_of};
 ghost use Rattle.cat_tree.specs.View.{data_of, entry_of};
-ghost use Rattle.cat_values.specs.Rows.{value_fits, is_empty};
+ghost use Rattle.cat_state_parts.specs.Rows.{value_fits, is_empty};
 ghost use Rattle.cat_search.specs.Walk.{is_tag, is_found};
 
 use crate::folded::{is_point_and, left_of_step, same_text};

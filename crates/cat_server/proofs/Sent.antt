@@ -4,10 +4,10 @@ use denote.RattleType.{RattleType}
 use Rattle.cat_desk.specs.contracts.fed.Fed as Fed
 use Rattle.cat_io.specs.declared.clock.Clock as Clock
 use Rattle.cat_keeper.specs.declared.keeper.Keeper as Keeper
-use Rattle.cat_kept_desk.specs.contracts.desk.KeptDesk as KeptDesk
+use Rattle.cat_stored_desk.specs.contracts.desk.KeptDesk as KeptDesk
 use Rattle.cat_layers.specs.contracts.layered.Layered as Layered
 use Rattle.cat_layers.specs.contracts.layered.LayeredLayers.TheImpl as layers
-use Rattle.cat_book.proofs.SentBooks.{fed_send}
+use Rattle.cat_shared.proofs.SentBooks.{fed_send}
 use Rattle.cat_server.proofs.SentStores.{kept_desk_send}
 
 layered_send : IsSend Layered.the_row

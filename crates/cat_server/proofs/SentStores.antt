@@ -2,16 +2,16 @@
 use denote.Param.Send.{IsSend, IsSync}
 use denote.Param.SendFields.{declared_send, declared_sync, variants_send, variants_sync}
 use denote.RattleType.{RattleType}
-use Rattle.cat_hold.specs.declared.layers.Layers as Layers
+use Rattle.cat_plan.specs.declared.layers.Layers as Layers
 use Rattle.cat_io.specs.declared.clock.Clock as Clock
 use Rattle.cat_keeper.specs.declared.keeper.Keeper as Keeper
-use Rattle.cat_rows.specs.contracts.row.StoredOffer as StoredOffer
-use Rattle.cat_rows.specs.contracts.row.StoredOutput as StoredOutput
-use Rattle.cat_rows.specs.contracts.row.StoredRow as StoredRow
+use Rattle.cat_row_format.specs.contracts.row.StoredOffer as StoredOffer
+use Rattle.cat_row_format.specs.contracts.row.StoredOutput as StoredOutput
+use Rattle.cat_row_format.specs.contracts.row.StoredRow as StoredRow
 use Rattle.cat_store.specs.contracts.store.Store as Store
-use Rattle.cat_kept_desk.specs.contracts.desk.KeptDesk as KeptDesk
-use Rattle.cat_book.proofs.SentBooks.{catalogue_send, saved_send}
-use Rattle.cat_book.proofs.SentStates.{known, Map-send, Map-sync}
+use Rattle.cat_stored_desk.specs.contracts.desk.KeptDesk as KeptDesk
+use Rattle.cat_shared.proofs.SentBooks.{catalogue_send, saved_send}
+use Rattle.cat_shared.proofs.SentStates.{known, Map-send, Map-sync}
 
 -- ---- rows
 

@@ -3,10 +3,10 @@ use Rattle.std.proofs.Common.{◌≡◌, ℕ, List, refl, sym, ap, ◌∙◌, su
 use Rattle.std.specs.declared.option.Option.{Option}
 use Rattle.std.specs.declared.option.Option.TheVariants.{None, Some}
 use Rattle.std.specs.Ordering.{nat_cmp}
-use Rattle.cat_table.specs.Table.{Text, find}
+use Rattle.cat_collections.specs.Table.{Text, find}
 use Rattle.cat_types.specs.declared.input.Mutation.{Mutation}
-use Rattle.cat_commands.specs.declared.line.Line.{Line}
-use Rattle.cat_commands.specs.declared.line.Line.TheVariants as asks
+use Rattle.cat_session_lines.specs.declared.line.Line.{Line}
+use Rattle.cat_session_lines.specs.declared.line.Line.TheVariants as asks
 use Rattle.cat_core.specs.Answer.{stop_answer}
 use Rattle.cat_core.specs.declared.ledger.Ledger.{Ledger}
 use Rattle.cat_desk.specs.Acts as desk
@@ -34,10 +34,10 @@ use Rattle.cat_model.specs.declared.types.Stop.TheVariants.{Refused as StopRefus
 use Rattle.cat_query.specs.declared.ask.Ask.{Ask}
 use Rattle.cat_session.specs.Carried.{Carries, CarriesDeed, order_taken}
 use Rattle.cat_session.specs.Replies.{reply_line}
-use Rattle.cat_transcript.specs.Program.{program_settings}
-use Rattle.cat_transcript.specs.Session.{add_order, after_finish, after_place, after_reading, finish_reply, limit_of, or_refused, order_numbered, place_reply, reply_to, settle_reply, stop_reply, with_state}
-use Rattle.cat_transcript.specs.declared.state.RuledSession.{RuledSession}
-use Rattle.cat_transcript.specs.declared.state.SessionState.{SessionState}
+use Rattle.cat_session_model.specs.Program.{program_settings}
+use Rattle.cat_session_model.specs.Session.{add_order, after_finish, after_place, after_reading, finish_reply, limit_of, or_refused, order_numbered, place_reply, reply_to, settle_reply, stop_reply, with_state}
+use Rattle.cat_session_model.specs.declared.state.RuledSession.{RuledSession}
+use Rattle.cat_session_model.specs.declared.state.SessionState.{SessionState}
 
 abbrev seen : State → ℕ → List Order → List (ℕ × StitchOrder) → SessionState
 seen state now orders stitches = record { state = state; now = now; orders = orders; stitches = stitches }

@@ -2,7 +2,7 @@
 use Rattle.std.proofs.Common.{◌≡◌, ◌≤◌, ℕ, List, length, arith, refl, sym, ap, ◌∙◌, subst, option_and_then}
 use Rattle.std.specs.declared.option.Option.{Option}
 use Rattle.std.specs.declared.option.Option.TheVariants.{None, Some}
-use Rattle.cat_table.specs.Table.{Text}
+use Rattle.cat_collections.specs.Table.{Text}
 use Rattle.cat_core.specs.declared.ledger.Ledger.{Ledger}
 use Rattle.cat_desk.specs.Acts.{Acts, deed_reply, or_refused}
 use Rattle.cat_desk.specs.Deed.Deed.{Take, TakeStitch}
@@ -21,7 +21,7 @@ use Rattle.cat_model.specs.declared.types.State.{State}
 use Rattle.cat_types.specs.declared.work.Work.{Work}
 use Rattle.cat_session.specs.Carried.{order_taken}
 use Rattle.cat_session.specs.Replies.{IsSaid, order_in, order_length, order_shown, shown, stitch_in}
-use Rattle.cat_transcript.specs.Session.{add_order, unless_refused}
+use Rattle.cat_session_model.specs.Session.{add_order, unless_refused}
 
 -- ---- what is handed out
 

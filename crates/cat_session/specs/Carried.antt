@@ -1,8 +1,8 @@
 -- What the code of a session does with a line.
 use Rattle.std.specs.Prelude.{◌≡◌, ⊤, Bool, true, false, List, ℕ}
 use Rattle.std.specs.declared.option.Option.{Option}
-use Rattle.cat_commands.specs.declared.line.Line.{Line}
-use Rattle.cat_commands.specs.declared.line.Line.TheVariants as asks
+use Rattle.cat_session_lines.specs.declared.line.Line.{Line}
+use Rattle.cat_session_lines.specs.declared.line.Line.TheVariants as asks
 use Rattle.cat_core.specs.declared.ledger.Ledger.{Ledger}
 use Rattle.cat_desk.specs.Acts.{answered, done}
 use Rattle.cat_desk.specs.Deed.{Deed}
@@ -15,9 +15,9 @@ use Rattle.cat_model.specs.Step.Event.{Take as Taken}
 use Rattle.cat_model.specs.declared.types.Order.{Order}
 use Rattle.cat_model.specs.declared.types.State.{State}
 use Rattle.cat_session.specs.Replies.{reply_line}
-use Rattle.cat_transcript.specs.Program.{program_settings}
-use Rattle.cat_transcript.specs.declared.state.RuledSession.{RuledSession}
-use Rattle.cat_transcript.specs.Session.{after_reading, limit_of, reply_to, unless_refused}
+use Rattle.cat_session_model.specs.Program.{program_settings}
+use Rattle.cat_session_model.specs.declared.state.RuledSession.{RuledSession}
+use Rattle.cat_session_model.specs.Session.{after_reading, limit_of, reply_to, unless_refused}
 
 -- a line was carried out under the session's rule, and this is its reply
 abbrev pub Carries : Rules → Line → RuledSession → RuledSession → List ℕ → Type 0

@@ -3,9 +3,9 @@ use Rattle.std.specs.Prelude.{◌≡◌, ⊤, ℕ, List, ◌∷◌, [], ◌++◌
 use Rattle.std.specs.declared.option.Option.{Option}
 use Rattle.std.specs.declared.option.Option.TheVariants.{None, Some}
 use Rattle.std.specs.Ordering.{nat_cmp}
-use Rattle.cat_table.specs.Table.{put}
-use Rattle.cat_commands.specs.declared.fault.LineFault.{LineFault}
-use Rattle.cat_commands.specs.declared.fault.LineFault.TheVariants.{LongLine, BadWord, BadArguments, Input, Reference, Query, NoMemory as LineNoMemory}
+use Rattle.cat_collections.specs.Table.{put}
+use Rattle.cat_session_lines.specs.declared.fault.LineFault.{LineFault}
+use Rattle.cat_session_lines.specs.declared.fault.LineFault.TheVariants.{LongLine, BadWord, BadArguments, Input, Reference, Query, NoMemory as LineNoMemory}
 use Rattle.cat_core.specs.declared.fault.CoreFault.{CoreFault}
 use Rattle.cat_core.specs.declared.fault.CoreFault.TheVariants as core
 use Rattle.cat_core.specs.declared.fault.Cut.{Cut}
@@ -18,7 +18,7 @@ use Rattle.cat_model.specs.declared.types.StitchOrder.{StitchOrder}
 use Rattle.cat_model.specs.declared.types.Fault.TheVariants.{OldSerial, NotFound, TooLarge, Spent}
 use Rattle.cat_replies.specs.Events as say
 use Rattle.cat_replies.specs.Faults as faults
-use Rattle.cat_transcript.specs.Session.{line_fault, order_reply, ticket_reply}
+use Rattle.cat_session_model.specs.Session.{line_fault, order_reply, ticket_reply}
 
 -- ---- the line of a reply
 

@@ -1,17 +1,17 @@
 //! A line that is carried out again, on a copy of what the catalogue held before it.
 ghost use Rattle.std.specs.Prelude.{◌≡◌, true};
 ghost use Rattle.std.specs.declared.result.Result.TheVariants.{Ok};
-ghost use Rattle.cat_commands.specs.Lines.{line_of};
-ghost use Rattle.cat_commands.specs.Ready.{IsReady};
-ghost use Rattle.cat_commands.specs.declared.line.Line.{Line};
+ghost use Rattle.cat_session_lines.specs.Lines.{line_of};
+ghost use Rattle.cat_session_lines.specs.Ready.{IsReady};
+ghost use Rattle.cat_session_lines.specs.declared.line.Line.{Line};
 ghost use Rattle.cat_desk.specs.Spare.{IsSpare};
 ghost use Rattle.cat_session.specs.Carried.{acts_on_state, after_whole, put_back};
 
 use crate::Session;
-use cat_commands::line::Line;
-use cat_commands::read::read_line;
 use cat_core::catalogue::Saved;
-use cat_hold::layers::Layers;
+use cat_plan::layers::Layers;
+use cat_session_lines::line::Line;
+use cat_session_lines::read::read_line;
 use std::alloc::Global;
 
 // How many bytes a line has at most that is carried out again. A new copy is cheaper than a longer one is.

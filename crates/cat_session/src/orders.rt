@@ -1,12 +1,12 @@
 //! Orders that were handed out.
 ghost use Rattle.std.specs.Prelude.{◌≡◌, ◌<◌, ◌≤◌, ◌+◌, [], IfOk, OnOk, OnErr, option_map, vec_capacity, vec_len};
 ghost use Rattle.cat_session.specs.Replies.{order_in, order_length, stitch_in, with_order};
-ghost use Rattle.cat_transcript.specs.Session.{add_order, order_numbered};
+ghost use Rattle.cat_session_model.specs.Session.{add_order, order_numbered};
 
 use crate::replies::ROOM;
+use cat_collections::map::Map;
 use cat_desk::command::Reply;
 use cat_model::types::{Order, StitchOrder};
-use cat_table::map::Map;
 use cat_types::reference::Ref;
 use std::alloc::{AllocError, Global};
 

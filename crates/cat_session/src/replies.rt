@@ -4,7 +4,6 @@ ghost use Rattle.cat_replies.specs.Events as say;
 ghost use Rattle.cat_session.specs.Replies.{IsEnded, IsLineRefusal, IsSaid, cut_line, fault_line, reply_line, shown};
 ghost use Rattle.cat_desk.specs.declared.command.Reply.TheVariants as replies;
 
-use cat_commands::fault::LineFault;
 use cat_core::fault::{CoreFault, Cut};
 use cat_desk::command::{Asked, Reply};
 use cat_model::types::Fault;
@@ -17,6 +16,7 @@ use cat_replies::faults::{
     push_bad_arguments, push_bad_word, push_long_line, push_no_facet, push_no_mutation,
     push_no_query, push_no_reference,
 };
+use cat_session_lines::fault::LineFault;
 use std::alloc::{AllocError, Global};
 
 /// The most bytes that a reply may have beside the reference that it shows, and some. This room is taken before an event acts,

@@ -2,40 +2,40 @@
 ghost use Rattle.std.specs.Prelude.{◌≡◌, ◌<◌, ◌≤◌, ◌-◌, ◌^◌, [], true, IfOk, IsTrue, OnErr, option_map};
 ghost use Rattle.std.specs.declared.option.Option.TheVariants.{None, Some};
 ghost use Rattle.std.specs.FinMap.Entries.{is_sorted};
-ghost use Rattle.cat_commands.specs.declared.line.Line.TheVariants as asks;
-ghost use Rattle.cat_commands.specs.Ready.{IsReady};
+ghost use Rattle.cat_session_lines.specs.declared.line.Line.TheVariants as asks;
+ghost use Rattle.cat_session_lines.specs.Ready.{IsReady};
 ghost use Rattle.cat_desk.specs.Acts.{done};
 ghost use Rattle.cat_desk.specs.Deed.{Deed, deed_of};
 ghost use Rattle.cat_desk.specs.Spare.{IsSpare};
-ghost use Rattle.cat_reached.specs.Gathered.{IsWithin};
+ghost use Rattle.cat_affected.specs.Gathered.{IsWithin};
 ghost use Rattle.cat_io.specs.Word.{AnswersLine, cut};
 ghost use Rattle.cat_model.specs.Settle.{try_settle};
 ghost use Rattle.cat_model.specs.Sound.{AreSmall, Sound};
 ghost use Rattle.cat_model.specs.Step.{next_taken};
 ghost use Rattle.cat_session.specs.Carried.{Carries, CarriesDeed, IsShort, Stays, after_whole, order_taken, put_back};
 ghost use Rattle.cat_session.specs.Replies.{IsLineRefusal};
-ghost use Rattle.cat_transcript.specs.Program.{program_settings, ruled_after, ruled_reply, session_start};
-ghost use Rattle.cat_table.specs.Table.{text_cmp};
-ghost use Rattle.cat_transcript.specs.Session.{add_order, after_reading, order_numbered};
+ghost use Rattle.cat_session_model.specs.Program.{program_settings, ruled_after, ruled_reply, session_start};
+ghost use Rattle.cat_collections.specs.Table.{text_cmp};
+ghost use Rattle.cat_session_model.specs.Session.{add_order, after_reading, order_numbered};
 
 use crate::orders::{keep, keep_stitch, order_in, order_numbered, room_for, stitch_in};
 use crate::replies::{ROOM, ended, line_refused, push_reply, unknown};
-use cat_commands::fault::LineFault;
-use cat_commands::line::Line;
-use cat_commands::read::read_line;
+use cat_collections::listing::Listing;
+use cat_collections::map::Map;
 use cat_core::catalogue::{Catalogue, Done, Saved, Stitched};
 use cat_core::extra::take_ref;
 use cat_desk::command::Command;
 use cat_desk::desk::Desk;
 use cat_desk::spare::{is_long_settle, says_whole, shared, taken};
 use cat_desk::timed::Timed;
-use cat_hold::layers::Layers;
 use cat_io::{FixedClock, Machine};
 use cat_model::types::{Order, OrphanRule, Settings, State, StitchOrder};
+use cat_plan::layers::Layers;
 use cat_query::ask::Ask;
 use cat_replies::events::push_changed;
-use cat_table::listing::Listing;
-use cat_table::map::Map;
+use cat_session_lines::fault::LineFault;
+use cat_session_lines::line::Line;
+use cat_session_lines::read::read_line;
 use cat_types::reference::Ref;
 use std::alloc::{AllocError, Global};
 use std::marker::Model;
@@ -73,9 +73,9 @@ pub struct Session<L: Layers> {
 
 impl<L: Layers> Model for Session<L> {
     ghost use Rattle.std.specs.Prelude.{◌≡◌};
-    ghost use Rattle.cat_transcript.specs.declared.state.RuledSession.{RuledSession};
-    ghost use Rattle.cat_transcript.specs.contracts.state.RuledSession.{the_row};
-    ghost use Rattle.cat_transcript.specs.Program.{program_settings};
+    ghost use Rattle.cat_session_model.specs.declared.state.RuledSession.{RuledSession};
+    ghost use Rattle.cat_session_model.specs.contracts.state.RuledSession.{the_row};
+    ghost use Rattle.cat_session_model.specs.Program.{program_settings};
 
     ghost Value = { RuledSession };
 
@@ -392,7 +392,7 @@ impl<L: Layers> Session<L> {
     }
 
     // Reads a line and carries it out, or says why it is refused. For want of memory the session is as before.
-    #[tactic(auto, unfolding(cat_transcript::specs::Session::session_after, cat_transcript::specs::Session::session_reply))]
+    #[tactic(auto, unfolding(cat_session_model::specs::Session::session_after, cat_session_model::specs::Session::session_reply))]
     fn answer_line(&mut self, line: &[u8]) -> Result<Vec<u8>, AllocError>
         ensures ok { IfOk result (λ text. AnswersLine (ruled_after L.rules) (ruled_reply L.rules) self.old self.new line.now text.items) }
         ensures err { OnErr result (self.new ≡ self.old) }

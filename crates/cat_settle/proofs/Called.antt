@@ -5,10 +5,10 @@ use Rattle.std.specs.declared.option.Option.TheVariants.{None, Some}
 use Rattle.std.specs.declared.result.Result.{Result}
 use Rattle.std.specs.declared.result.Result.TheVariants.{Ok, Err}
 use Rattle.std.specs.Option.{option_and_then}
-use Rattle.cat_table.specs.Table.{get, put, same_text, text_cmp}
-use Rattle.cat_table.proofs.Tables.{text_total, text_antisymmetric, same_is, find-put_same, find-put_other}
+use Rattle.cat_collections.specs.Table.{get, put, same_text, text_cmp}
+use Rattle.cat_collections.proofs.Tables.{text_total, text_antisymmetric, same_is, find-put_same, find-put_other}
 use Rattle.cat_links.specs.Links.{Emitted}
-use Rattle.cat_hold.specs.Linked.{AreLinked}
+use Rattle.cat_plan.specs.Linked.{AreLinked}
 use Rattle.cat_model.specs.declared.types.Fault.{Fault}
 use Rattle.cat_model.specs.declared.types.Progress.{Progress}
 use Rattle.cat_model.specs.declared.types.Record.{Record}

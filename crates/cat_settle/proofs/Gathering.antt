@@ -5,8 +5,8 @@ use Rattle.std.specs.declared.option.Option.{Option}
 use Rattle.std.specs.declared.option.Option.TheVariants.{None, Some}
 use Rattle.std.specs.declared.result.Result.{Result}
 use Rattle.std.specs.declared.result.Result.TheVariants.{Ok, Err}
-use Rattle.cat_table.specs.Table.{same_text}
-use Rattle.cat_table.proofs.Tables.{or_false_first, or_false_second}
+use Rattle.cat_collections.specs.Table.{same_text}
+use Rattle.cat_collections.proofs.Tables.{or_false_first, or_false_second}
 use Rattle.cat_model.specs.declared.types.Order.{Order}
 use Rattle.cat_model.specs.declared.types.Progress.{Progress}
 use Rattle.cat_model.specs.declared.types.Settings.{Settings}
@@ -17,12 +17,12 @@ use Rattle.cat_model.specs.Sound.{Sound}
 use Rattle.cat_model.specs.Step.{Event, step}
 use Rattle.cat_model.specs.Step.Event.{TakeAt, Finish, PutStitch}
 use Rattle.cat_events.specs.Stepped.{come_to}
-use Rattle.cat_reached.specs.Gathered.{Gathers, IsGathered, IsWithin}
-use Rattle.cat_reached.specs.Reach.{AreSameBeyond, AreSameInputs, has, own_refs, reached}
-use Rattle.cat_reached.proofs.Inputs.{inputs_stay}
-use Rattle.cat_reached.proofs.Nothing.{put_stitch_reaches, take_at_reaches}
-use Rattle.cat_reached.proofs.Own.{finish_reaches}
-use Rattle.cat_reached.proofs.Stepped.{inputs_unchanged, unchanged}
+use Rattle.cat_affected.specs.Gathered.{Gathers, IsGathered, IsWithin}
+use Rattle.cat_affected.specs.Reach.{AreSameBeyond, AreSameInputs, has, own_refs, reached}
+use Rattle.cat_affected.proofs.Inputs.{inputs_stay}
+use Rattle.cat_affected.proofs.Nothing.{put_stitch_reaches, take_at_reaches}
+use Rattle.cat_affected.proofs.Own.{finish_reaches}
+use Rattle.cat_affected.proofs.Stepped.{inputs_unchanged, unchanged}
 use Rattle.cat_settle.specs.Part.{moved, moved_in}
 use Rattle.cat_settle.proofs.Called.{came_step, moved_state}
 

@@ -7,8 +7,8 @@ use Rattle.std.specs.FinMap.{IsAntisymmetric}
 use Rattle.std.specs.FinMap.Entries.{is_sorted}
 use Rattle.std.specs.List.{filter}
 use Rattle.std.proofs.lemmas.List.{length-map}
-use Rattle.cat_table.specs.Table.{find, keys}
-use Rattle.cat_table.proofs.Searched.{find_here}
+use Rattle.cat_collections.specs.Table.{find, keys}
+use Rattle.cat_collections.proofs.Searched.{find_here}
 
 -- under the key of an entry its value is found
 abbrev pub IsHeld : {K X : Type 0} → (K → K → Ordering) → List (K × X) → K × X → Type 0

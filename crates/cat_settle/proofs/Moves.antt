@@ -3,8 +3,8 @@ use Rattle.std.proofs.Common.{◌≡◌, ℕ, zero, suc, ◌+◌, ◌-◌, ◌^�
 use Rattle.std.specs.declared.option.Option.{Option}
 use Rattle.std.specs.declared.option.Option.TheVariants.{None, Some}
 use Rattle.std.specs.List.{filter}
-use Rattle.cat_table.specs.Table.{get, keys}
-use Rattle.cat_table.proofs.Tables.{or_false_first, or_false_second}
+use Rattle.cat_collections.specs.Table.{get, keys}
+use Rattle.cat_collections.proofs.Tables.{or_false_first, or_false_second}
 use Rattle.cat_model.specs.declared.types.Fault.{Fault}
 use Rattle.cat_model.specs.declared.types.Order.{Order}
 use Rattle.cat_model.specs.declared.types.Progress.{Progress}

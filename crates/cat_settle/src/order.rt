@@ -1,21 +1,21 @@
 //! The orders of a settle, and what its events count.
 ghost use Rattle.std.specs.Prelude.{◌≡◌, ◌≤◌, IfOk, ℕ, List, Option, Bool, min, length, option_map, option_and_then};
-ghost use Rattle.cat_table.specs.Table.{get};
+ghost use Rattle.cat_collections.specs.Table.{get};
 ghost use Rattle.cat_model.specs.declared.types.Order.{Order as OrderValue};
 ghost use Rattle.cat_model.specs.declared.types.StitchOrder.{StitchOrder as StitchOrderValue};
 ghost use Rattle.cat_model.specs.declared.types.State.{State as StateValue};
 ghost use Rattle.cat_model.specs.Catalogue.{Rules, parts};
 ghost use Rattle.cat_model.specs.Settle.{counted, is_due, mark_order, order, order_with, stitch_order};
 ghost use Rattle.cat_model.specs.Step.Event.{Finish, PutStitch, TakeAt};
-ghost use Rattle.cat_hold.specs.Linked.{AreLinked, AreRecorded};
+ghost use Rattle.cat_plan.specs.Linked.{AreLinked, AreRecorded};
 ghost use Rattle.cat_settle.specs.Part.{noted};
 
-use cat_hold::layers::Layers;
-use cat_hold::linked_parts::present_parts;
-use cat_hold::parts::work_of;
+use cat_collections::listing::Copied;
 use cat_links::links::Links;
 use cat_model::types::{Fault, Lease, Order, Progress, Record, State, StitchOrder, Stop};
-use cat_table::listing::Copied;
+use cat_plan::layers::Layers;
+use cat_plan::linked_parts::present_parts;
+use cat_plan::parts::work_of;
 use cat_types::parts::Parts;
 use cat_types::reference::Ref;
 use cat_types::work::Work;

@@ -1,12 +1,12 @@
 //! What the events of a settle reached, gathered from one to the next.
 ghost use Rattle.std.specs.Prelude.{◌≡◌, ◌++◌, [], IfOk, IfSome};
 ghost use Rattle.cat_model.specs.declared.types.State.{State as StateValue};
-ghost use Rattle.cat_reached.specs.Gathered.{IsGathered};
+ghost use Rattle.cat_affected.specs.Gathered.{IsGathered};
 
+use cat_affected::reached::refs_of;
+use cat_collections::listing::Listing;
 use cat_model::records::Records;
 use cat_model::types::State;
-use cat_reached::reached::refs_of;
-use cat_table::listing::Listing;
 use cat_types::reference::Ref;
 use std::alloc::{AllocError, Global};
 

@@ -3,15 +3,15 @@ ghost use Rattle.std.specs.Prelude.{◌≡◌, ◌≤◌, false, IfOk, IfErr, �
 ghost use Rattle.cat_model.specs.Settle.{begun_round, due_refs, is_ended, try_round};
 ghost use Rattle.cat_events.specs.Coming.{IsSteady};
 ghost use Rattle.cat_events.specs.Stepped.{AreMoments};
-ghost use Rattle.cat_reached.specs.Gathered.{Gathers};
+ghost use Rattle.cat_affected.specs.Gathered.{Gathers};
 ghost use Rattle.cat_settle.specs.Part.{Came, CameRounds, Goes};
 
 use crate::order::counted;
 use crate::turn::all_turned;
-use cat_hold::layers::Layers;
+use cat_collections::listing::Listing;
 use cat_links::links::Links;
 use cat_model::types::{Progress, Settings};
-use cat_table::listing::Listing;
+use cat_plan::layers::Layers;
 use cat_types::reference::Ref;
 use std::alloc::{AllocError, Global};
 

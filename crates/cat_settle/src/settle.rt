@@ -3,15 +3,15 @@ ghost use Rattle.std.specs.Prelude.{◌≡◌, ◌≤◌, ℕ, Option};
 ghost use Rattle.cat_model.specs.Settle.{not_begun, try_settle};
 ghost use Rattle.cat_events.specs.Coming.{IsSteady};
 ghost use Rattle.cat_events.specs.Stepped.{AreMoments};
-ghost use Rattle.cat_reached.specs.Gathered.{Gathers};
+ghost use Rattle.cat_affected.specs.Gathered.{Gathers};
 ghost use Rattle.cat_settle.specs.Part.{Came, Goes};
 
 use crate::rounds::all_rounds;
 use crate::stitches::all_marks;
-use cat_hold::layers::Layers;
+use cat_collections::listing::Listing;
 use cat_links::links::Links;
 use cat_model::types::{Progress, Settings};
-use cat_table::listing::Listing;
+use cat_plan::layers::Layers;
 use cat_types::reference::Ref;
 use std::alloc::{AllocError, Global};
 

@@ -1,23 +1,23 @@
 //! The stitches at the end of a settle, in order of ticket.
 ghost use Rattle.std.specs.Prelude.{◌≡◌, ◌≤◌, [], IfOk, IfErr, ℕ, List, Option};
 ghost use Rattle.std.specs.declared.option.Option.TheVariants.{Some};
-ghost use Rattle.cat_table.specs.Table.{get, keys};
+ghost use Rattle.cat_collections.specs.Table.{get, keys};
 ghost use Rattle.cat_model.specs.Settle.{by_ticket, mark_order, marks_in_order, try_event, try_marks, try_stitch_with, try_stitches};
 ghost use Rattle.cat_model.specs.Step.Event.{PutStitch};
 ghost use Rattle.cat_events.specs.Coming.{IsSteady};
 ghost use Rattle.cat_events.specs.Stepped.{come_to};
-ghost use Rattle.cat_reached.specs.Gathered.{IsWithin};
+ghost use Rattle.cat_affected.specs.Gathered.{IsWithin};
 ghost use Rattle.cat_settle.specs.Part.{Came, Goes, moved_in};
 
 use crate::order::{stitch_noted, stitch_order_of};
+use cat_collections::listing::{Copied, Listing};
 use cat_events::done::Stitched;
 use cat_events::stitch::put_stitch;
-use cat_hold::layers::Layers;
 use cat_links::links::Links;
 use cat_model::types::{Progress, Settings, StitchOrder};
-use cat_table::listing::{Copied, Listing};
+use cat_plan::layers::Layers;
+use cat_state_parts::marks::Marks;
 use cat_types::reference::Ref;
-use cat_values::marks::Marks;
 use std::alloc::{AllocError, Global};
 
 // Copies of the marks.

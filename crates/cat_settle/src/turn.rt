@@ -1,25 +1,25 @@
 //! A turn: a record that is due is taken, whatever lease it has, and finished.
 ghost use Rattle.std.specs.Prelude.{◌≡◌, ◌≤◌, [], IfOk, IfErr, ℕ, Option, Bool};
 ghost use Rattle.std.specs.declared.option.Option.TheVariants.{Some};
-ghost use Rattle.cat_table.specs.Table.{get, keys};
+ghost use Rattle.cat_collections.specs.Table.{get, keys};
 ghost use Rattle.cat_links.specs.Links.{Emitted};
 ghost use Rattle.cat_model.specs.Settle.{is_due, order, try_event, try_finish, try_take_and_finish, try_turn, try_turns};
 ghost use Rattle.cat_model.specs.Sound.{AreSmall, Sound};
 ghost use Rattle.cat_model.specs.Step.Event.{Finish, TakeAt};
 ghost use Rattle.cat_events.specs.Coming.{IsSteady};
 ghost use Rattle.cat_events.specs.Stepped.{come_to, AreMoments};
-ghost use Rattle.cat_reached.specs.Gathered.{Gathers, IsWithin};
+ghost use Rattle.cat_affected.specs.Gathered.{Gathers, IsWithin};
 ghost use Rattle.cat_settle.specs.Part.{Came, Goes, moved, moved_in};
 
 use crate::order::{due, finish_noted, lease_noted, order_of};
 use crate::reaching::{gathered, rows_before};
+use cat_collections::listing::Listing;
 use cat_events::done::Done;
 use cat_events::finish::finish;
 use cat_events::lease::take_at;
-use cat_hold::layers::Layers;
 use cat_links::links::Links;
 use cat_model::types::{Order, Progress, Settings};
-use cat_table::listing::Listing;
+use cat_plan::layers::Layers;
 use cat_types::reference::Ref;
 use std::alloc::{AllocError, Global};
 

@@ -6,7 +6,7 @@ use Rattle.std.specs.declared.option.Option.TheVariants.{None, Some}
 use Rattle.std.specs.declared.result.Result.{Result}
 use Rattle.std.specs.declared.result.Result.TheVariants.{Ok, Err}
 use Rattle.std.specs.Option.{option_map}
-use Rattle.cat_table.specs.Table.{get}
+use Rattle.cat_collections.specs.Table.{get}
 use Rattle.cat_keeper.specs.Store.{Rows}
 use Rattle.cat_model.specs.Catalogue.{Ref, Rules, due_now}
 use Rattle.cat_model.specs.Sound.{AreNumbers, its_number, number_in}
@@ -15,22 +15,22 @@ use Rattle.cat_model.specs.declared.types.Orphan.{Orphan}
 use Rattle.cat_model.specs.declared.types.OrphanRule.{OrphanRule}
 use Rattle.cat_model.specs.declared.types.Record.{Record}
 use Rattle.cat_model.specs.declared.types.State.{State}
-use Rattle.cat_sound.specs.Candidate.{is_candidate}
-use Rattle.cat_sound.proofs.Passing.{IsResting, passes}
-use Rattle.cat_tables.specs.Opened.{is_first, rows_in}
-use Rattle.cat_tables.specs.Stored.{texts_of}
-use Rattle.cat_tables.specs.Told.{IsTold}
-use Rattle.cat_opening.specs.Candidate.{IsCandidate}
-use Rattle.cat_opening.specs.Forms.{has_forms}
-use Rattle.cat_opening.specs.Read.{AreNoTexts}
-use Rattle.cat_opening.specs.Standing.{rule_of, state_of}
-use Rattle.cat_opening.specs.declared.types.Candidate.{Candidate}
-use Rattle.cat_renewed.specs.Right.{AreOfNone, AreRowsOf, MayOpen, rested}
-use Rattle.cat_renewed.specs.Told.{IsPlaced}
-use Rattle.cat_renewed.proofs.Opening.{record_at, told_again}
-use Rattle.cat_renewed.proofs.Rested.{again_first, again_stored, both, forms_pass, is_due_of, told_rested}
-use Rattle.cat_renewed.proofs.Same.{due_records}
-use Rattle.cat_renewed.proofs.Stores.{AreItsRows, its_rows, read_back}
+use Rattle.cat_state_check.specs.Candidate.{is_candidate}
+use Rattle.cat_state_check.proofs.Passing.{IsResting, passes}
+use Rattle.cat_stored_rows.specs.Opened.{is_first, rows_in}
+use Rattle.cat_stored_rows.specs.Stored.{texts_of}
+use Rattle.cat_stored_rows.specs.Told.{IsTold}
+use Rattle.cat_row_reader.specs.Candidate.{IsCandidate}
+use Rattle.cat_row_reader.specs.Forms.{has_forms}
+use Rattle.cat_row_reader.specs.Read.{AreNoTexts}
+use Rattle.cat_row_reader.specs.Standing.{rule_of, state_of}
+use Rattle.cat_row_reader.specs.declared.types.Candidate.{Candidate}
+use Rattle.cat_row_updates.specs.Right.{AreOfNone, AreRowsOf, MayOpen, rested}
+use Rattle.cat_row_updates.specs.Told.{IsPlaced}
+use Rattle.cat_row_updates.proofs.Opening.{record_at, told_again}
+use Rattle.cat_row_updates.proofs.Rested.{again_first, again_stored, both, forms_pass, is_due_of, told_rested}
+use Rattle.cat_row_updates.proofs.Same.{due_records}
+use Rattle.cat_row_updates.proofs.Stores.{AreItsRows, its_rows, read_back}
 use Rattle.cat_store.specs.Tells.{is_telling}
 use Rattle.cat_store.proofs.Passes.{tells}
 

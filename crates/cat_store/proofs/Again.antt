@@ -4,8 +4,8 @@ use Rattle.std.specs.declared.option.Option.{Option}
 use Rattle.std.specs.declared.option.Option.TheVariants.{None, Some}
 use Rattle.std.specs.FinMap.Entries.{same_entries}
 use Rattle.std.specs.Option.{option_and_then, option_map}
-use Rattle.cat_table.specs.Table.{get, over, tabulate, text_cmp}
-use Rattle.cat_table.proofs.Tables.{find-over, find-tabulate_all, is_sorted-tabulate, text_antisymmetric, text_total}
+use Rattle.cat_collections.specs.Table.{get, over, tabulate, text_cmp}
+use Rattle.cat_collections.proofs.Tables.{find-over, find-tabulate_all, is_sorted-tabulate, text_antisymmetric, text_total}
 use Rattle.cat_types.specs.declared.parts.Parts.{Parts}
 use Rattle.cat_model.specs.Catalogue.{Ref, Rules, Tree, due_now, known_refs, parts}
 use Rattle.cat_model.specs.Sound.{AreOrdered, IsStitched, Sound}
@@ -13,8 +13,8 @@ use Rattle.cat_model.specs.Step.{reopened}
 use Rattle.cat_model.specs.declared.types.Record.{Record}
 use Rattle.cat_model.specs.declared.types.State.{State}
 use Rattle.cat_model.proofs.Frame.{unknown}
-use Rattle.cat_sound.proofs.Found.{over_same}
-use Rattle.cat_tables.proofs.In.{none_some, same_some}
+use Rattle.cat_state_check.proofs.Found.{over_same}
+use Rattle.cat_stored_rows.proofs.In.{none_some, same_some}
 
 module _ (rules : Rules) (m n : State) (is : n ≡ reopened rules m) (sound : Sound rules n) (ordered : AreOrdered n) where
   -- a record that is due at once and free stays as it is

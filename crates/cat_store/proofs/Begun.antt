@@ -4,7 +4,7 @@ use Rattle.std.proofs.lemmas.Bool.Decides.{nat_tests}
 use Rattle.std.specs.declared.option.Option.{Option}
 use Rattle.std.specs.declared.option.Option.TheVariants.{None, Some}
 use Rattle.std.specs.FinMap.Entries.{is_sorted}
-use Rattle.cat_table.specs.Table.{get, text_cmp}
+use Rattle.cat_collections.specs.Table.{get, text_cmp}
 use Rattle.cat_model.specs.Catalogue.{Ref, Rules}
 use Rattle.cat_model.specs.Settle.{after_refusal, begun_round, by_ticket, counted, due_refs, is_due, is_full, mark_order, not_begun, order, try_event, try_finish, try_marks, try_round, try_rounds, try_settle, try_stitch_with, try_stitches, try_take_and_finish, try_turn, try_turns, width}
 use Rattle.cat_model.specs.Step.{Event, change, refusal, step}
@@ -17,7 +17,7 @@ use Rattle.cat_model.specs.declared.types.Settings.{Settings}
 use Rattle.cat_model.specs.declared.types.State.{State}
 use Rattle.cat_model.specs.declared.types.Stop.TheVariants.{Limit, Refused}
 use Rattle.cat_model.specs.declared.types.StitchOrder.{StitchOrder}
-use Rattle.cat_tables.specs.Stored.{stored}
+use Rattle.cat_stored_rows.specs.Stored.{stored}
 use Rattle.cat_store.proofs.Unstored.{put_stitch_still, take_at_still}
 
 -- one more is at least one

@@ -4,9 +4,9 @@ use Rattle.std.specs.List.{list_all}
 use Rattle.cat_model.specs.Sound.{AreOffers, AreSmall}
 use Rattle.cat_model.specs.declared.types.State.{State}
 use Rattle.cat_types.specs.Names.{is_name}
-use Rattle.cat_renewed.specs.Renewed.{IsKept}
-use Rattle.cat_table.proofs.Tables.{text_antisymmetric, text_total}
-use Rattle.cat_tables.proofs.In.{in_found, in_passes}
+use Rattle.cat_row_updates.specs.Renewed.{IsKept}
+use Rattle.cat_collections.proofs.Tables.{text_antisymmetric, text_total}
+use Rattle.cat_stored_rows.proofs.In.{in_found, in_passes}
 
 pub kept : (m : State) → AreOffers m → AreSmall m → list_all (λ e. is_name e.0) m.providers ≡ true → IsKept m
 kept m offers small named = record {

@@ -5,13 +5,13 @@ use Rattle.std.specs.declared.option.Option.{Option}
 use Rattle.std.specs.declared.option.Option.TheVariants.{None, Some}
 use Rattle.std.specs.declared.result.Result.{Result}
 use Rattle.std.specs.declared.result.Result.TheVariants.{Ok, Err}
-use Rattle.cat_breaches.specs.Difference.{PartAt}
+use Rattle.cat_row_faults.specs.Difference.{PartAt}
 use Rattle.cat_keeper.specs.Store.{RowKey, Rows}
-use Rattle.cat_opening.specs.Candidate.{IsCandidate}
-use Rattle.cat_opening.specs.declared.types.Candidate.{Candidate}
+use Rattle.cat_row_reader.specs.Candidate.{IsCandidate}
+use Rattle.cat_row_reader.specs.declared.types.Candidate.{Candidate}
 use Rattle.cat_store.specs.Refused.{AreTheirs, IsDifference}
-use Rattle.cat_tables.specs.Opened.{is_first, rows_in}
-use Rattle.cat_tables.specs.Stored.{texts_of}
+use Rattle.cat_stored_rows.specs.Opened.{is_first, rows_in}
+use Rattle.cat_stored_rows.specs.Stored.{texts_of}
 
 -- the texts of the state are those that rows were compared with
 pub compared : (rows others : Rows) (found : Candidate) → IsCandidate rows found → others ≡ texts_of (rows_in (is_first rows) found.rule found.state)

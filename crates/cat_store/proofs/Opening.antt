@@ -8,8 +8,8 @@ use Rattle.cat_model.specs.Catalogue.{Rules}
 use Rattle.cat_model.specs.Sound.{AreBegun}
 use Rattle.cat_model.specs.Step.{reopened}
 use Rattle.cat_model.specs.declared.types.State.{State}
-use Rattle.cat_sound.specs.Candidate.{is_candidate}
-use Rattle.cat_sound.specs.declared.reopen.Opening.{Opening}
+use Rattle.cat_state_check.specs.Candidate.{is_candidate}
+use Rattle.cat_state_check.specs.declared.reopen.Opening.{Opening}
 use Rattle.cat_store.specs.Opened.{IsOpening}
 use Rattle.cat_store.specs.Tells.{is_telling}
 use Rattle.cat_store.proofs.Again.{reopens_as_itself}

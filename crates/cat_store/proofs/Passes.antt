@@ -10,9 +10,9 @@ use Rattle.std.specs.List.{AllByRecursion, list_all}
 use Rattle.std.specs.Option.{option_map}
 use Rattle.cat_tree.specs.Data.{Data, null, flag, whole, words, list, dict, Items, no_items, item, Members, no_members, member}
 use Rattle.cat_tree.specs.Proper.{IsNarrow, ItemsNarrow, MembersNarrow}
-use Rattle.cat_table.specs.Table.{Text, get, text_cmp}
-use Rattle.cat_table.proofs.Rising.{from_T}
-use Rattle.cat_table.proofs.Tables.{text_antisymmetric, text_total}
+use Rattle.cat_collections.specs.Table.{Text, get, text_cmp}
+use Rattle.cat_collections.proofs.Rising.{from_T}
+use Rattle.cat_collections.proofs.Tables.{text_antisymmetric, text_total}
 use Rattle.cat_types.specs.declared.input.Offered.{Offered}
 use Rattle.cat_types.specs.declared.work.Output.{Output}
 use Rattle.cat_model.specs.Catalogue.{Ref, row_at}
@@ -24,18 +24,18 @@ use Rattle.cat_model.specs.declared.types.ProviderInputs.{ProviderInputs}
 use Rattle.cat_model.specs.declared.types.Record.{Record as Recorded}
 use Rattle.cat_model.specs.declared.types.Row.{Row}
 use Rattle.cat_model.specs.declared.types.State.{State}
-use Rattle.cat_rows.specs.Text.{kept_data, row_data}
-use Rattle.cat_rows.specs.declared.row.StoredRow.{StoredRow}
-use Rattle.cat_rows.specs.declared.row.StoredRow.TheVariants.{Provider, Orphan as OrphanRow, Tree}
-use Rattle.cat_tables.specs.Stored.{all_rows, emitted, is_blank, output_row, record_row, rows_of}
-use Rattle.cat_tables.specs.Told.{IsTold}
-use Rattle.cat_tables.proofs.In.{In, all_in, found_in}
-use Rattle.cat_renewed.specs.Told.{IsPlaced}
-use Rattle.cat_renewed.proofs.Narrow.{stands}
-use Rattle.cat_renewed.proofs.Parts.{offers_are}
-use Rattle.cat_renewed.proofs.Rested.{all_pass, both}
-use Rattle.cat_renewed.proofs.Same.{rows_are}
-use Rattle.cat_renewed.proofs.Views.{has_orphan, has_provider, has_record, has_tree}
+use Rattle.cat_row_format.specs.Text.{kept_data, row_data}
+use Rattle.cat_row_format.specs.declared.row.StoredRow.{StoredRow}
+use Rattle.cat_row_format.specs.declared.row.StoredRow.TheVariants.{Provider, Orphan as OrphanRow, Tree}
+use Rattle.cat_stored_rows.specs.Stored.{all_rows, emitted, is_blank, output_row, record_row, rows_of}
+use Rattle.cat_stored_rows.specs.Told.{IsTold}
+use Rattle.cat_stored_rows.proofs.In.{In, all_in, found_in}
+use Rattle.cat_row_updates.specs.Told.{IsPlaced}
+use Rattle.cat_row_updates.proofs.Narrow.{stands}
+use Rattle.cat_row_updates.proofs.Parts.{offers_are}
+use Rattle.cat_row_updates.proofs.Rested.{all_pass, both}
+use Rattle.cat_row_updates.proofs.Same.{rows_are}
+use Rattle.cat_row_updates.proofs.Views.{has_orphan, has_provider, has_record, has_tree}
 use Rattle.cat_store.specs.Narrow.{is_narrow, are_narrow, have_narrow}
 use Rattle.cat_store.specs.Tells.{is_narrow_offer, is_narrow_orphan, is_narrow_output, is_narrow_record, is_narrow_row, is_right_provider, is_telling}
 

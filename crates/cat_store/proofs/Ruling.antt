@@ -5,7 +5,7 @@ use Rattle.cat_keeper.specs.Store.{Rows}
 use Rattle.cat_model.specs.declared.types.OrphanRule.{OrphanRule}
 use Rattle.cat_model.specs.declared.types.OrphanRule.TheVariants.{Keep}
 use Rattle.cat_model.specs.declared.types.State.{State}
-use Rattle.cat_tables.specs.Stored.{texts_of}
+use Rattle.cat_stored_rows.specs.Stored.{texts_of}
 use Rattle.cat_store.specs.Opened.{HasRule, is_first, rows_in}
 
 module _ (rows : Rows) (found rule : OrphanRule) (first : Bool) (tests : first ≡ is_first rows) (is : rule ≡ (if first then Keep else found)) where

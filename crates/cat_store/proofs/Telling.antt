@@ -9,9 +9,9 @@ use Rattle.std.specs.List.{AllByRecursion, list_all}
 use Rattle.std.specs.Option.{option_map}
 use Rattle.cat_tree.specs.Data.{Data, items_of}
 use Rattle.cat_tree.specs.Proper.{IsNarrow, ItemsNarrow}
-use Rattle.cat_table.specs.Pairs.{pair_antisymmetric, pair_total}
-use Rattle.cat_table.specs.Table.{Text, find, get, text_cmp}
-use Rattle.cat_table.proofs.Tables.{and_first, and_second, text_antisymmetric, text_total}
+use Rattle.cat_collections.specs.Pairs.{pair_antisymmetric, pair_total}
+use Rattle.cat_collections.specs.Table.{Text, find, get, text_cmp}
+use Rattle.cat_collections.proofs.Tables.{and_first, and_second, text_antisymmetric, text_total}
 use Rattle.cat_types.specs.declared.input.Offered.{Offered}
 use Rattle.cat_types.specs.declared.issue.Issue.{Issue}
 use Rattle.cat_types.specs.declared.work.Output.{Output}
@@ -24,18 +24,18 @@ use Rattle.cat_model.specs.declared.types.OrphanRule.TheVariants.{Keep}
 use Rattle.cat_model.specs.declared.types.Record.{Record as Recorded}
 use Rattle.cat_model.specs.declared.types.Row.{Row}
 use Rattle.cat_model.specs.declared.types.State.{State}
-use Rattle.cat_rows.specs.Formed.{is_any}
-use Rattle.cat_rows.specs.Text.{issue_data, kept_data, offer_data, row_data}
-use Rattle.cat_rows.specs.declared.row.StoredOutput.{StoredOutput}
-use Rattle.cat_rows.specs.declared.row.StoredRow.{StoredRow}
-use Rattle.cat_rows.specs.declared.row.StoredRow.TheVariants.{Record, RecordOne}
-use Rattle.cat_sound.proofs.Found.{T-true, found_passes}
-use Rattle.cat_tables.specs.First.{all_first}
-use Rattle.cat_tables.specs.Stored.{all_rows, emitted, emitted_as, emitted_by, given_in, is_blank, item_with, kept_in, offer_in, orphan_row, output_in, pairs_cmp, provider_row, record_as, record_in, shelf_row, tree_beside, tree_rows}
-use Rattle.cat_tables.specs.Told.{AreFirstNarrow, AreNarrow, IsTold}
-use Rattle.cat_tables.specs.declared.version.Version.{Version}
-use Rattle.cat_tables.specs.declared.version.Version.TheVariants.{One, Two}
-use Rattle.cat_tables.proofs.In.{In, from_flat, from_map, from_puts, in_all, in_either, in_passes, none_some}
+use Rattle.cat_row_format.specs.Formed.{is_any}
+use Rattle.cat_row_format.specs.Text.{issue_data, kept_data, offer_data, row_data}
+use Rattle.cat_row_format.specs.declared.row.StoredOutput.{StoredOutput}
+use Rattle.cat_row_format.specs.declared.row.StoredRow.{StoredRow}
+use Rattle.cat_row_format.specs.declared.row.StoredRow.TheVariants.{Record, RecordOne}
+use Rattle.cat_state_check.proofs.Found.{T-true, found_passes}
+use Rattle.cat_stored_rows.specs.First.{all_first}
+use Rattle.cat_stored_rows.specs.Stored.{all_rows, emitted, emitted_as, emitted_by, given_in, is_blank, item_with, kept_in, offer_in, orphan_row, output_in, pairs_cmp, provider_row, record_as, record_in, shelf_row, tree_beside, tree_rows}
+use Rattle.cat_stored_rows.specs.Told.{AreFirstNarrow, AreNarrow, IsTold}
+use Rattle.cat_stored_rows.specs.declared.version.Version.{Version}
+use Rattle.cat_stored_rows.specs.declared.version.Version.TheVariants.{One, Two}
+use Rattle.cat_stored_rows.proofs.In.{In, from_flat, from_map, from_puts, in_all, in_either, in_passes, none_some}
 use Rattle.cat_store.specs.Narrow.{is_narrow}
 use Rattle.cat_store.specs.Tells.{is_narrow_offer, is_narrow_orphan, is_narrow_output, is_narrow_record, is_narrow_row, is_right_provider, is_telling}
 use Rattle.cat_store.proofs.Narrowness.{narrow}

@@ -5,8 +5,8 @@ use Rattle.std.specs.declared.option.Option.TheVariants.{None, Some}
 use Rattle.std.specs.Cmp.{IsTotalOrder}
 use Rattle.std.specs.FinMap.Entries.{below_all, by_order, is_sorted}
 use Rattle.std.specs.Ordering.{is_eq, is_lt}
-use Rattle.cat_table.specs.Table.{find, get, put, text_cmp}
-use Rattle.cat_table.proofs.Tables.{and_first, and_second, text_total}
+use Rattle.cat_collections.specs.Table.{find, get, put, text_cmp}
+use Rattle.cat_collections.proofs.Tables.{and_first, and_second, text_total}
 use Rattle.cat_model.specs.Catalogue.{Ref, Rules}
 use Rattle.cat_model.specs.Step.{change, is_present_stitch, leased, next_taken, refresh, refusal, step, take, take_next, with_record, without_key}
 use Rattle.cat_model.specs.Step.Event.{PutStitch, Refresh, Take, TakeAt}
@@ -17,9 +17,9 @@ use Rattle.cat_model.specs.declared.types.Record.{Record}
 use Rattle.cat_model.specs.declared.types.Settings.{Settings}
 use Rattle.cat_model.specs.declared.types.State.{State}
 use Rattle.cat_model.specs.declared.types.StitchOrder.{StitchOrder}
-use Rattle.cat_rows.specs.declared.row.StoredRow.{StoredRow}
-use Rattle.cat_tables.specs.Stored.{Stored, counter_rows, emitted, given_rows, is_keep, orphan_row, provider_row, put_rows, record_row, rule_of, shelf_row, stored}
-use Rattle.cat_rows.specs.declared.row.StoredRow.TheVariants.{Settings as SettingsRow}
+use Rattle.cat_row_format.specs.declared.row.StoredRow.{StoredRow}
+use Rattle.cat_stored_rows.specs.Stored.{Stored, counter_rows, emitted, given_rows, is_keep, orphan_row, provider_row, put_rows, record_row, rule_of, shelf_row, stored}
+use Rattle.cat_row_format.specs.declared.row.StoredRow.TheVariants.{Settings as SettingsRow}
 
 is_less : (r : Ordering) → is_lt r ≡ true → r ≡ Less
 is_less Less e = refl

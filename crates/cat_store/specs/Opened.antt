@@ -6,8 +6,8 @@ use Rattle.cat_model.specs.Catalogue.{Rules}
 use Rattle.cat_model.specs.Sound.{AreBegun}
 use Rattle.cat_model.specs.Step.{reopened}
 use Rattle.cat_model.specs.declared.types.State.{State}
-use Rattle.cat_tables.specs.Told.{AreFirstNarrow, IsTold}
-pub use Rattle.cat_tables.specs.Opened.{HasRule, IsRead, is_first, is_of_first, is_row_of_first, rows_in}
+use Rattle.cat_stored_rows.specs.Told.{AreFirstNarrow, IsTold}
+pub use Rattle.cat_stored_rows.specs.Opened.{HasRule, IsRead, is_first, is_of_first, is_row_of_first, rows_in}
 
 -- A catalogue may begin with a state and the relations of its kept outputs: all holds that must hold between two events, its counters have begun,
 -- its rows tell it in either version, and it opens again as itself.

@@ -1,17 +1,17 @@
 -- Which rows a store may be refused for, and which of them is named.
 use Rattle.std.specs.Prelude.{◌≡◌, ℕ, ⊤, ◌⊎◌, codes}
 use Rattle.std.specs.declared.option.Option.TheVariants.{None, Some}
-use Rattle.cat_breaches.specs.Difference.{PartAt}
-use Rattle.cat_breaches.specs.First.{IsVerdict}
+use Rattle.cat_row_faults.specs.Difference.{PartAt}
+use Rattle.cat_row_faults.specs.First.{IsVerdict}
 use Rattle.cat_keeper.specs.Store.{RowKey, Rows}
 use Rattle.cat_keeper.specs.declared.table.Table.TheVariants.{Counters}
 use Rattle.cat_model.specs.Catalogue.{Rules}
-use Rattle.cat_opening.specs.Candidate.{IsCandidate}
-use Rattle.cat_opening.specs.Read.{AreNoTexts}
-use Rattle.cat_opening.specs.declared.types.Candidate.{Candidate}
-use Rattle.cat_renewed.specs.Right.{AreOfNone}
-use Rattle.cat_tables.specs.Opened.{is_first, rows_in}
-use Rattle.cat_tables.specs.Stored.{texts_of}
+use Rattle.cat_row_reader.specs.Candidate.{IsCandidate}
+use Rattle.cat_row_reader.specs.Read.{AreNoTexts}
+use Rattle.cat_row_reader.specs.declared.types.Candidate.{Candidate}
+use Rattle.cat_row_updates.specs.Right.{AreOfNone}
+use Rattle.cat_stored_rows.specs.Opened.{is_first, rows_in}
+use Rattle.cat_stored_rows.specs.Stored.{texts_of}
 use Rattle.cat_store.specs.declared.open.OpenFault.{OpenFault}
 use Rattle.cat_store.specs.declared.open.OpenFault.TheVariants.{Keeper, Row, NoMemory}
 

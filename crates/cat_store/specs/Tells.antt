@@ -4,7 +4,7 @@ use Rattle.std.specs.declared.option.Option.{Option}
 use Rattle.std.specs.declared.option.Option.TheVariants.{None, Some}
 use Rattle.std.specs.FinMap.Entries.{is_sorted}
 use Rattle.std.specs.List.{list_all}
-use Rattle.cat_table.specs.Table.{Text, text_cmp}
+use Rattle.cat_collections.specs.Table.{Text, text_cmp}
 use Rattle.cat_types.specs.declared.input.Offered.{Offered}
 use Rattle.cat_types.specs.declared.work.Output.{Output}
 use Rattle.cat_model.specs.Catalogue.{Ref}

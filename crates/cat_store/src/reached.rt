@@ -6,15 +6,15 @@ ghost use Rattle.cat_keeper.specs.Answers.{Are};
 ghost use Rattle.cat_keeper.specs.declared.keeper.Committed.TheVariants.{Kept};
 ghost use Rattle.cat_model.specs.Sound.{AreOffers, AreSmall};
 ghost use Rattle.cat_types.specs.Names as names;
-ghost use Rattle.cat_renewed.specs.Renewed.{IsBeyond};
-ghost use Rattle.cat_tables.specs.Stored.{stored, texts_of};
+ghost use Rattle.cat_row_updates.specs.Renewed.{IsBeyond};
+ghost use Rattle.cat_stored_rows.specs.Stored.{stored, texts_of};
 
 use crate::store::Store;
 use cat_keeper::keeper::{Committed, Keeper};
 use cat_model::types::State;
-use cat_renewed::reached::Reached;
-use cat_renewed::renew::renewed_rows;
-use cat_tables::among::batch_among;
+use cat_row_updates::reached::Reached;
+use cat_row_updates::renew::renewed_rows;
+use cat_stored_rows::among::batch_among;
 use cat_types::names::is_name;
 use std::alloc::Global;
 

@@ -5,13 +5,13 @@ ghost use Rattle.cat_keeper.specs.Answers.{Are, Commits};
 ghost use Rattle.cat_keeper.specs.Store.{applied};
 ghost use Rattle.cat_keeper.specs.declared.keeper.Committed.TheVariants.{Kept};
 ghost use Rattle.cat_keeper.specs.declared.keeper.Place.{Place};
-ghost use Rattle.cat_tables.specs.Stored.{stored, texts_of};
+ghost use Rattle.cat_stored_rows.specs.Stored.{stored, texts_of};
 
 use cat_keeper::keeper::{Committed, Keeper, Place};
 use cat_keeper::rows::Batch;
 use cat_model::types::{OrphanRule, State};
-use cat_tables::batch::batch_between;
-use cat_tables::stored::{Stored, stored_rows};
+use cat_stored_rows::batch::batch_between;
+use cat_stored_rows::stored::{Stored, stored_rows};
 use std::alloc::Global;
 
 /// A keeper for a place, and the rows that it has there: those of a state under a rule for orphans.

@@ -2,15 +2,15 @@
 ghost use Rattle.std.specs.Prelude.{◌≡◌, ◌^◌, ◌&&◌, nat_lt};
 ghost use Rattle.std.specs.FinMap.Entries.{is_sorted};
 ghost use Rattle.std.specs.List.{list_all};
-ghost use Rattle.cat_table.specs.Table.{text_cmp};
+ghost use Rattle.cat_collections.specs.Table.{text_cmp};
 ghost use Rattle.cat_store.specs.Narrow.{is_narrow};
 ghost use Rattle.cat_store.specs.Tells as spec;
 
 use crate::narrow::is_narrow;
+use cat_collections::map::Map;
 use cat_model::records::Records;
 use cat_model::rows::IndexedRows;
 use cat_model::types::{Orphan, ProviderInputs, Row, State};
-use cat_table::map::Map;
 use cat_tree::text::Text;
 use cat_types::input::Offered;
 use cat_types::reference::Ref;

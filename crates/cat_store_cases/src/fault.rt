@@ -1,6 +1,6 @@
 //! Why a case has no answer.
 use cat_case::shown::ShowFault;
-use cat_rows::row::RowFault;
+use cat_row_format::row::RowFault;
 use cat_tree::read::TreeFault;
 use cat_types::fault::RefFault;
 use std::alloc::AllocError;

@@ -2,12 +2,12 @@
 use crate::fault::Fault;
 use cat_case::case::Case;
 use cat_case::shown::{push_counted, push_gap, push_texts, push_word};
+use cat_collections::listing::Listing;
+use cat_collections::map::Map;
 use cat_feed::change::{Change, Changes, Since};
 use cat_feed::fault::FeedFault;
 use cat_feed::feed::Feed;
 use cat_feed::mirror::Mirror;
-use cat_table::listing::Listing;
-use cat_table::map::Map;
 use cat_tree::tree::Tree;
 use cat_types::node::Node;
 use cat_types::reference::{Ref, parse};

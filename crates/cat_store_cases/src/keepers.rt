@@ -3,11 +3,11 @@ use crate::fault::Fault;
 use crate::rows::table_named;
 use cat_case::case::Case;
 use cat_case::shown::{push_texts, truth_text};
+use cat_collections::map::Map;
 use cat_keeper::keeper::{Committed, Keeper, Loaded, Place};
 use cat_keeper::memory::MemoryKeeper;
 use cat_keeper::rows::{Batch, Change, StoredRows};
 use cat_keeper::table::Table;
-use cat_table::map::Map;
 use cat_tree::text::Text;
 use std::alloc::{AllocError, Global};
 

@@ -2,8 +2,8 @@
 use crate::fault::Fault;
 use cat_case::case::Case;
 use cat_case::shown::push_word;
+use cat_collections::listing::Listing;
 use cat_links::links::{EmitChange, Links};
-use cat_table::listing::Listing;
 use cat_types::reference::{Ref, parse};
 use cat_types::relation::{RelKind, Relation};
 use std::alloc::{AllocError, Global};

@@ -2,8 +2,8 @@
 use crate::fault::Fault;
 use cat_case::case::Case;
 use cat_case::shown::{push_number, push_texts};
+use cat_state_parts::marks::Marks;
 use cat_types::reference::{Ref, parse};
-use cat_values::marks::Marks;
 use std::alloc::{AllocError, Global};
 
 // Puts a mark behind what stands so far.

@@ -3,8 +3,8 @@ use crate::fault::Fault;
 use cat_case::case::Case;
 use cat_case::shown::push_texts;
 use cat_keeper::table::Table;
-use cat_rows::read::read_row;
-use cat_rows::write::{RowText, write_row};
+use cat_row_format::read::read_row;
+use cat_row_format::write::{RowText, write_row};
 use std::alloc::{AllocError, Global};
 
 // The table with a number, if it has this name.

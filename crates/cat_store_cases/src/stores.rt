@@ -1,15 +1,15 @@
 //! Stores with their candidates, or the row that is wrong.
 use crate::fault::Fault;
 use crate::rows::table_named;
-use cat_breaches::first::wrong_row;
 use cat_case::case::Case;
 use cat_case::shown::{push_counted, push_texts, push_word};
+use cat_collections::map::Map;
 use cat_keeper::rows::StoredRows;
 use cat_keeper::table::Table;
 use cat_model::types::{Origin, OrphanRule, ProviderInputs, Record, Row, State};
-use cat_opening::candidate::candidate;
-use cat_opening::types::Candidate;
-use cat_table::map::Map;
+use cat_row_faults::first::wrong_row;
+use cat_row_reader::candidate::candidate;
+use cat_row_reader::types::Candidate;
 use cat_tree::text::Text;
 use cat_types::reference::Ref;
 use cat_types::work::Output;

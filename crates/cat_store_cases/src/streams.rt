@@ -4,9 +4,9 @@ ghost use Rattle.std.specs.Prelude.{◌≡◌, ◌+◌, ◌%◌, ◌∷◌, [], 
 use crate::fault::Fault;
 use cat_case::case::Case;
 use cat_case::shown::{push_bytes, push_counted, push_texts, truth_text};
+use cat_connection::{answer_lines, connection};
 use cat_http::message::Message;
 use cat_io::{MemorySink, MemorySource, ReadAnswer, Source, session, write_all};
-use cat_wire::{answer_lines, connection};
 use std::alloc::{AllocError, Global};
 
 /// Answers each line with the line itself, after a letter that it counts up.
@@ -44,7 +44,7 @@ struct Echo {
     alloc: Global,
 }
 
-impl cat_wire::Machine for Echo {
+impl cat_connection::Machine for Echo {
     ghost answers = { λ old m new text. (new ≡ old) × (text ≡ m.path) };
 
     ghost lacks = { λ old _ new. new ≡ old };

@@ -5,12 +5,12 @@
 //! documents that they lead to, and for `sample` the line of a sample; `serve` ends well only where the doors have closed; for `session` and `wire`
 //! over a store it says what the store was opened as, and that the keeper follows; each status has its cause.
 //!
-//! It stands on cat_words for the words, on cat_fleeting, cat_kept and cat_server for the commands: over a catalogue that nothing keeps, over a store,
-//! and a server; on cat_wire and cat_io for the ends and how a command ends, on cat_doors, and on cat_model and cat_transcript for what events and
+//! It stands on cat_command_line for the words, on cat_in_memory, cat_stored_session and cat_server for the commands: over a catalogue that nothing keeps, over a store,
+//! and a server; on cat_connection and cat_io for the ends and how a command ends, on cat_listener, and on cat_model and cat_session_model for what events and
 //! lines keep.
 #![tactic(auto)]
 
 mod top;
 
-pub use cat_wire::Status;
+pub use cat_connection::Status;
 pub use top::run;

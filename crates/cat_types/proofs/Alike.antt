@@ -7,8 +7,8 @@ use Rattle.std.proofs.lemmas.Bool.Decides.{Decides-eqb}
 use mathlib.Core.Bool.{beq}
 use Rattle.cat_tree.specs.Same.{is_same}
 use Rattle.cat_tree.proofs.Equality.{is_same-true, is_same-itself}
-use Rattle.cat_table.specs.Table.{Text, same_text}
-use Rattle.cat_table.proofs.Tables.{text_total, text_antisymmetric, same_is, same_self, and_first, and_second}
+use Rattle.cat_collections.specs.Table.{Text, same_text}
+use Rattle.cat_collections.proofs.Tables.{text_total, text_antisymmetric, same_is, same_self, and_first, and_second}
 use Rattle.cat_types.specs.Relations.{relation_antisymmetric, relation_total}
 use Rattle.cat_types.specs.declared.issue.Issue.{Issue}
 use Rattle.cat_types.specs.declared.issue.IssueName.{IssueName}

@@ -1,8 +1,8 @@
 -- What is put into a table and taken out of it.
 use Rattle.std.specs.Prelude.{List, [], ◌∷◌}
 use Rattle.std.specs.declared.cmp.Ordering.{Ordering}
-use Rattle.cat_table.specs.Rows.{without}
-use Rattle.cat_table.specs.Table.{puts}
+use Rattle.cat_collections.specs.Rows.{without}
+use Rattle.cat_collections.specs.Table.{puts}
 
 -- the entries without these keys
 abbrev pub without_all : {K X : Type 0} → (K → K → Ordering) → List K → List (K × X) → List (K × X)

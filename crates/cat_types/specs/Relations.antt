@@ -4,7 +4,7 @@ use Rattle.std.specs.Prelude.{if◌then◌else◌, bytes_eq, codes}
 use Rattle.std.specs.Ordering.{is_eq, ordering_then}
 use Rattle.std.specs.Cmp.{IsTotalOrder, then_total, on_total}
 use Rattle.std.specs.FinMap.{IsAntisymmetric}
-use Rattle.cat_table.specs.Table.{Text, text_total, text_antisymmetric}
+use Rattle.cat_collections.specs.Table.{Text, text_total, text_antisymmetric}
 use Rattle.cat_types.specs.Relation.{kind_text, relation_cmp}
 use Rattle.cat_types.specs.declared.relation.RelKind.{RelKind}
 use Rattle.cat_types.specs.declared.relation.RelKind.TheVariants.{OwnedBy, OwnerOf, PartOf, HasPart, ProvidesApi, ApiProvidedBy, ConsumesApi, ApiConsumedBy, DependsOn, DependencyOf, ChildOf, ParentOf, HasMember, MemberOf}

@@ -5,7 +5,7 @@ use Rattle.std.specs.declared.option.Option.TheVariants.{None, Some}
 use Rattle.std.specs.Ordering.{eq_by_cmp}
 use mathlib.Core.Bool.{beq}
 use Rattle.cat_tree.specs.Same.{is_same}
-use Rattle.cat_table.specs.Table.{Text, same_text}
+use Rattle.cat_collections.specs.Table.{Text, same_text}
 use Rattle.cat_types.specs.Relation.{relation_cmp}
 use Rattle.cat_types.specs.declared.issue.Issue.{Issue}
 use Rattle.cat_types.specs.declared.issue.IssueName.{IssueName}

@@ -2,13 +2,13 @@
 ghost use Rattle.std.specs.Prelude.{◌≡◌, [], IfOk, IsTrue, MatchResult, length, option_map};
 ghost use Rattle.std.specs.FinMap.Entries.{is_sorted};
 ghost use Rattle.std.specs.Ordering.{ordering_reverse};
-ghost use Rattle.cat_table.specs.Rows.{IsAt, IsBetween};
-ghost use Rattle.cat_table.specs.Table.{find, keys};
+ghost use Rattle.cat_collections.specs.Rows.{IsAt, IsBetween};
+ghost use Rattle.cat_collections.specs.Table.{find, keys};
 
 use crate::sorted::append;
-use cat_table::key::Key;
-use cat_table::listing::{Copied, Listing};
-use cat_table::map::rise;
+use cat_collections::key::Key;
+use cat_collections::listing::{Copied, Listing};
+use cat_collections::map::rise;
 use std::alloc::{AllocError, Global};
 use std::cmp::Ordering;
 use std::marker::Model;

@@ -1,7 +1,7 @@
 //! What providers give.
 use crate::node::Node;
 use crate::reference::Ref;
-use cat_table::listing::{Copied, Listing};
+use cat_collections::listing::{Copied, Listing};
 use cat_tree::text::Text;
 use std::alloc::{AllocError, Global};
 

@@ -1,5 +1,5 @@
 //! What processing an entity has to say of it, as the status items of a document show it.
-use cat_table::listing::Copied;
+use cat_collections::listing::Copied;
 use cat_tree::text::Text;
 use std::alloc::{AllocError, Global};
 

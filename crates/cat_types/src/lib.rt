@@ -5,7 +5,7 @@
 //! references. It is kept in lower case as its full text `kind:namespace/name`, by which it is ordered, and contracts see it as that text. The
 //! forms of names stand in `specs/Names.antt`, the grammar of reference texts in `specs/Reading.antt`, apart from the code that cuts them.
 //!
-//! It stands on cat_tree and cat_table. Code and definitions share these types, so no mapping lies between them: the value that a contract
+//! It stands on cat_tree and cat_collections. Code and definitions share these types, so no mapping lies between them: the value that a contract
 //! sees is the plain record or list itself.
 //!
 //! The promise: a text has at most one reading as a reference, each refusal names the first rule that is broken, and a reference's text names

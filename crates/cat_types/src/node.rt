@@ -1,5 +1,5 @@
 //! A tree that contracts see as its data.
-use cat_table::listing::Copied;
+use cat_collections::listing::Copied;
 use cat_tree::ask::same;
 use cat_tree::tree::Tree;
 use std::alloc::{AllocError, Global};

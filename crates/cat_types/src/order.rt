@@ -3,10 +3,10 @@ ghost use Rattle.std.specs.Prelude.{◌≡◌};
 ghost use Rattle.std.specs.Ordering.{ordering_then};
 ghost use Rattle.cat_types.specs.Relation.{kind_text, relation_cmp};
 ghost use Rattle.cat_types.specs.Relations.{relation_antisymmetric, relation_total};
-ghost use Rattle.cat_table.specs.Table.{text_cmp};
+ghost use Rattle.cat_collections.specs.Table.{text_cmp};
 
 use crate::relation::{RelKind, Relation};
-use cat_table::key::Key;
+use cat_collections::key::Key;
 use std::cmp::Ordering;
 
 fn compare_kinds(left: RelKind, right: RelKind) -> Ordering

@@ -2,7 +2,7 @@
 use crate::issue::Issue;
 use crate::node::Node;
 use crate::relation::Relation;
-use cat_table::listing::{Copied, Listing};
+use cat_collections::listing::{Copied, Listing};
 use std::alloc::{AllocError, Global};
 
 /// The parts of a document: the processed entity, the number behind its `uid`, whether it is an orphan, its relations in

@@ -3,7 +3,7 @@ ghost use Rattle.std.specs.Prelude.{◌≡◌, IfOk};
 ghost use Rattle.cat_types.specs.Relation.{kind_text};
 
 use crate::reference::Ref;
-use cat_table::listing::Copied;
+use cat_collections::listing::Copied;
 use std::alloc::{AllocError, Global};
 
 /// The kind of a relation, by the well-known relations of the Backstage documentation.

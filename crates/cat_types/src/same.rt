@@ -1,6 +1,6 @@
 //! Tests of equality.
 ghost use Rattle.std.specs.Prelude.{◌≡◌, ◌↔◌, IsTrue, Bool};
-ghost use Rattle.cat_table.specs.Table.{same_text};
+ghost use Rattle.cat_collections.specs.Table.{same_text};
 ghost use Rattle.cat_types.specs.Same as spec;
 
 use crate::issue::{Issue, IssueName, Level};
@@ -8,7 +8,7 @@ use crate::parts::Parts;
 use crate::reference::Ref;
 use crate::relation::Relation;
 use crate::work::{Content, Work};
-use cat_table::key::Key;
+use cat_collections::key::Key;
 use cat_tree::text::Text;
 use std::cmp::Ordering;
 

@@ -3,10 +3,10 @@ ghost use Rattle.std.specs.Prelude.{◌≡◌, ◌++◌, IfOk};
 ghost use Rattle.std.specs.List.{list_any};
 ghost use Rattle.std.specs.List.Sorted.{IsStrictlySortedBy};
 ghost use Rattle.std.specs.Ordering.{eq_by_cmp};
-ghost use Rattle.cat_table.specs.Order.{in_order};
+ghost use Rattle.cat_collections.specs.Order.{in_order};
 
-use cat_table::key::Key;
-use cat_table::listing::Copied;
+use cat_collections::key::Key;
+use cat_collections::listing::Copied;
 use std::alloc::{AllocError, Global};
 use std::cmp::Ordering;
 

@@ -4,7 +4,7 @@ use crate::input::Offered;
 use crate::issue::Issue;
 use crate::node::Node;
 use crate::reference::Ref;
-use cat_table::listing::{Copied, Listing};
+use cat_collections::listing::{Copied, Listing};
 use cat_tree::text::Text;
 use std::alloc::{AllocError, Global};
 

@@ -4,10 +4,10 @@
 //! It promises nothing of its own; what it prints is told by `cat_tool::run`, as far as the operating system hands on what it is given.
 #![tactic(auto)]
 
-use cat_doors::{HostClock, TcpDoors};
+use cat_backends::files::ToolFiles;
+use cat_backends::place::PlaceKeeper;
 use cat_io::{StdSink, StdSource};
-use cat_keepers::files::ToolFiles;
-use cat_keepers::place::PlaceKeeper;
+use cat_listener::{HostClock, TcpDoors};
 use cat_tool::{Status, run};
 use std::process::ExitCode;
 use std::{env, io};

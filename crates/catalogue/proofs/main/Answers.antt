@@ -1,6 +1,6 @@
 use denote.Exit.{no}
 use denote.Param.Send.{arg_send, param_send}
-use Rattle.cat_keepers.proofs.SentFiles.{place_keeper_send}
+use Rattle.cat_backends.proofs.SentFiles.{place_keeper_send}
 use Rattle.catalogue.proofs.main.Goals as goal
 
 pub run-requires-send-K : goal.run-requires-send-K

@@ -1,6 +1,6 @@
 use Rattle.std.proofs.Common.{◌++◌, take}
 use Rattle.std.specs.List.{flat_map}
-use Rattle.cat_table.specs.Table.{keys}
+use Rattle.cat_collections.specs.Table.{keys}
 use Rattle.cat_model.specs.Rows.{named}
 use Rattle.cat_claims.specs.Change.{AreAmong}
 use Rattle.cat_claims.proofs.mend.call_all.Given as goal

@@ -1,6 +1,6 @@
 use Rattle.std.proofs.Common.{ap, ◌∙◌, length}
 use Rattle.std.proofs.lemmas.Result.{IfOk-weaker}
-use Rattle.cat_table.specs.Table.{keys}
+use Rattle.cat_collections.specs.Table.{keys}
 use Rattle.cat_model.specs.Mend.{below}
 use Rattle.cat_claims.proofs.Released.{they_wait_then, reheld_then, touched_then}
 use Rattle.cat_claims.proofs.mend.mend.Goals as goal

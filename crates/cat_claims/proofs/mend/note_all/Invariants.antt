@@ -1,5 +1,5 @@
 use Rattle.std.proofs.Common.{◌++◌}
-use Rattle.cat_table.specs.Table.{keys}
+use Rattle.cat_collections.specs.Table.{keys}
 use Rattle.cat_claims.specs.Touched.{HasAll}
 use Rattle.cat_claims.proofs.mend.note_all.Given as goal
 

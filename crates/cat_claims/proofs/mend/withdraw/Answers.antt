@@ -1,7 +1,7 @@
 use Rattle.std.proofs.Common.{rules, ap, ◌∙◌}
-use Rattle.cat_table.specs.Table.{text_cmp}
-use Rattle.cat_table.specs.Rows.{without}
-use Rattle.cat_table.proofs.Tables.{text_total, text_antisymmetric}
+use Rattle.cat_collections.specs.Table.{text_cmp}
+use Rattle.cat_collections.specs.Rows.{without}
+use Rattle.cat_collections.proofs.Tables.{text_total, text_antisymmetric}
 use Rattle.cat_claims.proofs.Outside.{outside_more, outside_none}
 use Rattle.cat_claims.proofs.mend.withdraw.Goals as goal
 

@@ -1,5 +1,5 @@
 use Rattle.std.proofs.Common.{◌≡◌, ◌<◌, ◌≤◌, ℕ, true}
-use Rattle.cat_table.specs.Table.{keys}
+use Rattle.cat_collections.specs.Table.{keys}
 use Rattle.cat_claims.specs.Change.{among}
 use Rattle.cat_claims.proofs.replaced.arrivals_from.Given as goal
 

@@ -1,5 +1,5 @@
 use Rattle.std.proofs.Common.{sym, ◌∙◌}
-use Rattle.cat_table.specs.Table.{same_text}
+use Rattle.cat_collections.specs.Table.{same_text}
 use Rattle.cat_claims.proofs.Renewed.{all_changed, no_item, one_item}
 use Rattle.cat_claims.proofs.replaced.renewed_rows.Goals as goal
 

@@ -1,6 +1,6 @@
 use Rattle.std.proofs.Common.{◌≡◌}
 use Rattle.std.specs.List.{list_any}
-use Rattle.cat_table.specs.Table.{same_text}
+use Rattle.cat_collections.specs.Table.{same_text}
 use Rattle.cat_claims.specs.Renewed.{renewed}
 use Rattle.cat_claims.proofs.Renewed.{left_from}
 use Rattle.cat_claims.proofs.replaced.renewed_rows.Given as goal

@@ -1,5 +1,5 @@
 use Rattle.std.proofs.Common.{ap, sym, ◌∙◌}
-use Rattle.cat_table.specs.Table.{keys}
+use Rattle.cat_collections.specs.Table.{keys}
 use Rattle.cat_model.specs.Catalogue.{Rows, row_at}
 use Rattle.cat_model.specs.Step.{add_offers}
 use Rattle.cat_model.specs.declared.types.Numbered.{Numbered}

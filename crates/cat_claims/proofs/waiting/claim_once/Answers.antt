@@ -1,5 +1,5 @@
 use Rattle.std.proofs.Common.{sym, subst, [], ◌∷◌}
-use Rattle.cat_table.specs.Table.{keys}
+use Rattle.cat_collections.specs.Table.{keys}
 use Rattle.cat_claims.specs.Touched.{AreKeptBut}
 use Rattle.cat_claims.specs.Waiting.{AllWait}
 use Rattle.cat_claims.proofs.Touched.{kept_self}

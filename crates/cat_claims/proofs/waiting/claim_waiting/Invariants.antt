@@ -1,5 +1,5 @@
 use Rattle.std.proofs.Common.{◌≡◌, length}
-use Rattle.cat_table.specs.Table.{keys}
+use Rattle.cat_collections.specs.Table.{keys}
 use Rattle.cat_model.specs.Catalogue.{claim}
 use Rattle.cat_claims.specs.Touched.{AreKeptBut}
 use Rattle.cat_claims.specs.Waiting.{AllWait}

@@ -1,5 +1,5 @@
 use Rattle.std.proofs.Common.{◌++◌, take}
-use Rattle.cat_table.specs.Table.{keys}
+use Rattle.cat_collections.specs.Table.{keys}
 use Rattle.cat_claims.specs.Change.{AreAmong}
 use Rattle.cat_claims.proofs.waiting.put_arrivals.Given as goal
 

@@ -3,7 +3,7 @@ use Rattle.cat_model.specs.Sound.{AreBegun}
 use Rattle.cat_model.specs.declared.types.Progress.{Progress}
 use Rattle.cat_model.specs.Settle.{try_settle}
 use Rattle.cat_settle.specs.Part.{Came}
-use Rattle.cat_reached.specs.Gathered.{Gathers}
+use Rattle.cat_affected.specs.Gathered.{Gathers}
 use Rattle.cat_core.specs.Answer.{IsSettled}
 use Rattle.cat_core.proofs.Settles.{begun_within, few_events, settled_begun, settles}
 use Rattle.cat_core.proofs.catalogue.settle_state.Goals as goal

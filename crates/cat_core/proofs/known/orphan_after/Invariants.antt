@@ -1,7 +1,7 @@
 use Rattle.std.proofs.Common.{◌≡◌}
 use Rattle.std.specs.Option.{option_map}
-use Rattle.cat_table.specs.Left.{items_left}
-use Rattle.cat_table.specs.Table.{first, keys}
+use Rattle.cat_collections.specs.Left.{items_left}
+use Rattle.cat_collections.specs.Table.{first, keys}
 use Rattle.cat_model.specs.Reply.{comes_after}
 use Rattle.cat_core.proofs.known.orphan_after.Given as goal
 

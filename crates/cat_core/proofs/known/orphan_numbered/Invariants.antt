@@ -1,5 +1,5 @@
 use Rattle.std.proofs.Common.{◌≡◌, nat_eq}
-use Rattle.cat_table.specs.Left.{items_left}
+use Rattle.cat_collections.specs.Left.{items_left}
 use Rattle.cat_core.specs.Numbered.{key_where}
 use Rattle.cat_core.proofs.known.orphan_numbered.Given as goal
 

@@ -1,5 +1,5 @@
 use Rattle.std.proofs.Common.{◌≡◌, nat_eq}
-use Rattle.cat_owned.specs.BoxedLeft.{boxed_left}
+use Rattle.cat_owned_map.specs.BoxedLeft.{boxed_left}
 use Rattle.cat_core.specs.Numbered.{key_where}
 use Rattle.cat_core.proofs.known.record_numbered.Given as goal
 

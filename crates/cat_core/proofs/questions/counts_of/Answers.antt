@@ -1,5 +1,5 @@
 use Rattle.std.proofs.Common.{◌∙◌}
-use Rattle.cat_table.proofs.Tables.{text_antisymmetric, text_total}
+use Rattle.cat_collections.proofs.Tables.{text_antisymmetric, text_total}
 use Rattle.cat_model.specs.Reply.{is_leased}
 use Rattle.cat_model.specs.Settle.{is_due}
 use Rattle.cat_settle.proofs.Held.{count_in_order}

@@ -1,6 +1,6 @@
 use Rattle.std.proofs.Common.{◌&&◌, is_some, sym, ap, option_map, ◌∙◌}
 use Rattle.std.specs.declared.option.Option.TheVariants.{Some}
-use Rattle.cat_table.specs.Left.{items_left}
+use Rattle.cat_collections.specs.Left.{items_left}
 use Rattle.cat_model.specs.Reply.{place_cmp, waits}
 use Rattle.cat_core.specs.Least.{nearer}
 use Rattle.cat_core.specs.Waits.{is_above, nearest, place_of}

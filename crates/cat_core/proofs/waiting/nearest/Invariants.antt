@@ -1,5 +1,5 @@
 use Rattle.std.proofs.Common.{◌≡◌, option_map}
-use Rattle.cat_table.specs.Left.{items_left}
+use Rattle.cat_collections.specs.Left.{items_left}
 use Rattle.cat_core.specs.Waits.{nearest, place_of}
 use Rattle.cat_core.proofs.Nearer.{nearest_with}
 use Rattle.cat_core.proofs.waiting.nearest.Given as goal

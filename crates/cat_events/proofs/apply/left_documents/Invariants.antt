@@ -1,5 +1,5 @@
 use Rattle.std.proofs.Common.{◌≡◌, drop}
-use Rattle.cat_hold.specs.Amended.{without_all}
+use Rattle.cat_plan.specs.Amended.{without_all}
 use Rattle.cat_events.proofs.apply.left_documents.Given as goal
 
 -- without the references that are left to go the documents are those wanted

@@ -1,6 +1,6 @@
 use Rattle.std.proofs.Common.{List, sym, ap, subst, ◌∙◌}
 use Rattle.std.specs.declared.option.Option.{Option}
-use Rattle.cat_table.specs.Table.{Text}
+use Rattle.cat_collections.specs.Table.{Text}
 use Rattle.cat_model.specs.declared.types.Origin.TheVariants.{Entity}
 use Rattle.cat_model.specs.declared.types.Record.{Record}
 use Rattle.cat_claims.specs.Change.{IsChangedAmong}

@@ -1,5 +1,5 @@
 use Rattle.std.proofs.Common.{◌≡◌, ◌++◌, drop}
-use Rattle.cat_table.specs.Table.{keys}
+use Rattle.cat_collections.specs.Table.{keys}
 use Rattle.cat_events.proofs.claims.refs_of.Given as goal
 
 abbrev pub invariant-loop-reference : goal.invariant-loop-reference

@@ -1,6 +1,6 @@
 use Rattle.std.proofs.Common.{◌++◌, List, ap, subst, ◌∙◌}
 use Rattle.std.specs.declared.option.Option.TheVariants.{Some}
-use Rattle.cat_table.specs.Table.{Text, get}
+use Rattle.cat_collections.specs.Table.{Text, get}
 use Rattle.cat_model.specs.declared.types.Origin.TheVariants.{Entity}
 use Rattle.cat_model.specs.Step.{replaced}
 use Rattle.cat_claims.specs.Claimed.{IsClaimed}

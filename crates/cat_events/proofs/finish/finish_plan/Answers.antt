@@ -1,7 +1,7 @@
 use Rattle.std.proofs.Common.{is_some, sym, ap, subst, ◌∙◌}
 use Rattle.std.specs.declared.option.Option.TheVariants.{Some}
-use Rattle.cat_hold.specs.Linked.{AreLinked}
-use Rattle.cat_hold.specs.declared.change.Own.{Own}
+use Rattle.cat_plan.specs.Linked.{AreLinked}
+use Rattle.cat_plan.specs.declared.change.Own.{Own}
 use Rattle.cat_model.specs.declared.types.Order.{Order}
 use Rattle.cat_model.specs.Catalogue.{frame, held}
 use Rattle.cat_model.proofs.Changed.{sound_ready}

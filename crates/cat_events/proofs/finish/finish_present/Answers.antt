@@ -1,7 +1,7 @@
 use Rattle.std.proofs.Common.{◌≡◌, sym, ap, ◌∙◌, true≢false}
 use Rattle.std.specs.declared.option.Option.TheVariants.{None}
 use Rattle.std.specs.Option.{option_map}
-use Rattle.cat_table.specs.Table.{get}
+use Rattle.cat_collections.specs.Table.{get}
 use Rattle.cat_model.specs.declared.types.Order.{Order}
 use Rattle.cat_model.specs.Step.Event.{Finish}
 use Rattle.cat_events.specs.Again.{is_present_order}

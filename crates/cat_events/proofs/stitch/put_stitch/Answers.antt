@@ -1,6 +1,6 @@
 use Rattle.std.proofs.Common.{ap, sym, ◌∙◌}
-use Rattle.cat_table.specs.Rows.{without}
-use Rattle.cat_table.specs.Table.{put, text_cmp}
+use Rattle.cat_collections.specs.Rows.{without}
+use Rattle.cat_collections.specs.Table.{put, text_cmp}
 use Rattle.cat_model.specs.Step.{is_present_stitch}
 use Rattle.cat_events.proofs.Stored.{stitch_comes}
 use Rattle.cat_events.proofs.stitch.put_stitch.Goals as goal

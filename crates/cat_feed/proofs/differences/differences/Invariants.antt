@@ -1,5 +1,5 @@
 use Rattle.std.proofs.Common.{◌≡◌, ◌++◌}
-use Rattle.cat_table.specs.Left.{items_left}
+use Rattle.cat_collections.specs.Left.{items_left}
 use Rattle.cat_feed.specs.Rest.{left}
 use Rattle.cat_feed.specs.Walk.{walked}
 use Rattle.cat_feed.proofs.differences.differences.Given as goal

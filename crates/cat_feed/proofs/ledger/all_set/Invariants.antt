@@ -1,5 +1,5 @@
 use Rattle.std.proofs.Common.{◌≡◌, ◌+◌, ◌++◌, length}
-use Rattle.cat_table.specs.Left.{items_left}
+use Rattle.cat_collections.specs.Left.{items_left}
 use Rattle.cat_feed.specs.Changes.{numbered, sets}
 use Rattle.cat_feed.proofs.ledger.all_set.Given as goal
 

@@ -1,5 +1,5 @@
 use Rattle.std.proofs.Common.{◌≡◌, ◌++◌, map}
-use Rattle.cat_table.specs.Left.{items_left}
+use Rattle.cat_collections.specs.Left.{items_left}
 use Rattle.cat_tree.specs.View.{data_of}
 use Rattle.cat_journal.specs.Batches.{change_data}
 use Rattle.cat_journal.proofs.body.batch_tree.Given as goal

@@ -1,5 +1,5 @@
 use Rattle.std.proofs.Common.{◌≡◌}
-use Rattle.cat_table.specs.Left.{items_left}
+use Rattle.cat_collections.specs.Left.{items_left}
 use Rattle.cat_keeper.specs.Store.{applied}
 use Rattle.cat_keeper.proofs.rows.apply.Given as goal
 

@@ -1,5 +1,5 @@
 -- Repeats change nothing.
-use Rattle.cat_table.proofs.Tables.{none_or_some}
+use Rattle.cat_collections.proofs.Tables.{none_or_some}
 use Rattle.cat_laws.proofs.Repeats.{old_mutation, run_above, again}
 use Rattle.cat_laws.proofs.theorem.repeats_change_nothing.Goals as goal
 

@@ -1,5 +1,5 @@
 -- A settle meets its relation.
-use Rattle.cat_table.proofs.Tables.{none_or_some}
+use Rattle.cat_collections.proofs.Tables.{none_or_some}
 use Rattle.cat_laws.proofs.Ended.{is_settle, rounds_within}
 use Rattle.cat_laws.proofs.Tried.{unstopped_quiet}
 use Rattle.cat_laws.proofs.theorem.settles.Goals as goal

@@ -1,5 +1,5 @@
 -- Settles are short.
-use Rattle.cat_table.proofs.Tables.{none_or_some}
+use Rattle.cat_collections.proofs.Tables.{none_or_some}
 use Rattle.cat_laws.proofs.Unchanged.{round_more, stay_settled, stay_to_end, settle_rounds, settle_leases}
 use Rattle.cat_laws.proofs.theorem.settles_are_short.Goals as goal
 

@@ -1,6 +1,6 @@
 use Rattle.std.proofs.Common.{◌≡◌, ◌≤◌, ◌+◌, min, ◌^◌}
 use Rattle.std.specs.List.{sum_by}
-use Rattle.cat_table.specs.Left.{items_left}
+use Rattle.cat_collections.specs.Left.{items_left}
 use Rattle.cat_layers.specs.Bytes.{entry_bytes}
 use Rattle.cat_layers.proofs.bytes.with_shelf.Given as goal
 

@@ -1,6 +1,6 @@
 use Rattle.std.proofs.Common.{◌≡◌, cond, false, rules, sym, ap, ◌∙◌}
-use Rattle.cat_table.specs.Rows.{without}
-use Rattle.cat_table.specs.Table.{put, text_cmp}
+use Rattle.cat_collections.specs.Rows.{without}
+use Rattle.cat_collections.specs.Table.{put, text_cmp}
 use Rattle.cat_links.specs.Links.{is_empty}
 use Rattle.cat_links.specs.Counts.{Counts, SourceCounts}
 use Rattle.cat_links.proofs.counts.put_counts.Goals as goal

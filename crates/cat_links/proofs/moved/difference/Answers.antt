@@ -3,9 +3,9 @@ use Rattle.std.specs.List.{filter}
 use Rattle.std.specs.List.Sorted.{IsStrictlySortedBy}
 use Rattle.std.proofs.lemmas.List.Elements.{filter_agree}
 use Rattle.cat_types.specs.Relation.{relation_cmp}
-use Rattle.cat_table.specs.Order.{in_order}
+use Rattle.cat_collections.specs.Order.{in_order}
 use Rattle.cat_links.specs.Links.{has}
-use Rattle.cat_table.proofs.Orders.{has-in_order, in_order-rises}
+use Rattle.cat_collections.proofs.Orders.{has-in_order, in_order-rises}
 use Rattle.cat_types.specs.Relations.{relation_total, relation_antisymmetric}
 use Rattle.cat_links.proofs.moved.difference.Goals as goal
 

@@ -1,5 +1,5 @@
 use Rattle.std.proofs.Common.{◌≡◌, ◌++◌}
-use Rattle.cat_owned.specs.BoxedLeft.{boxed_left}
+use Rattle.cat_owned_map.specs.BoxedLeft.{boxed_left}
 use Rattle.cat_model.proofs.records.copied_moments.Given as goal
 
 -- the copies so far and the moments that are left are all moments

@@ -1,5 +1,5 @@
 use Rattle.std.proofs.Common.{◌≡◌, ◌++◌}
-use Rattle.cat_owned.specs.BoxedLeft.{boxed_left}
+use Rattle.cat_owned_map.specs.BoxedLeft.{boxed_left}
 use Rattle.cat_model.specs.Dues.{refs_until}
 use Rattle.cat_model.proofs.records.refs_until.Given as goal
 

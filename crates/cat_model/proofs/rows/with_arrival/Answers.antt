@@ -1,5 +1,5 @@
 use Rattle.std.proofs.Common.{◌∙◌}
-use Rattle.cat_table.specs.Table.{put}
+use Rattle.cat_collections.specs.Table.{put}
 use Rattle.cat_model.proofs.rows.with_arrival.Goals as goal
 
 pub returns-clause-index : goal.returns-clause-index

@@ -1,5 +1,5 @@
 use Rattle.std.proofs.Common.{◌∙◌, sym}
-use Rattle.cat_table.specs.Table.{put}
+use Rattle.cat_collections.specs.Table.{put}
 use Rattle.cat_model.proofs.Indexed.{filled}
 use Rattle.cat_model.proofs.rows.with_set.Goals as goal
 

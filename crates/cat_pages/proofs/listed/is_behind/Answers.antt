@@ -1,6 +1,6 @@
 use Rattle.std.proofs.Common.{sym, ap, ◌∙◌, ◌∷◌}
 use Rattle.std.proofs.lemmas.Map.Text.{is_eq-slice_cmp}
-use Rattle.cat_table.specs.Table.{same_text}
+use Rattle.cat_collections.specs.Table.{same_text}
 use Rattle.cat_pages.proofs.listed.is_behind.Goals as goal
 
 pub returns-then-first-eq61 : goal.returns-then-first-eq61

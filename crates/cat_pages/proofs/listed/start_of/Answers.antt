@@ -1,5 +1,5 @@
 use Rattle.std.proofs.Common.{ap, ◌∙◌}
-use Rattle.cat_table.specs.Places.{before}
+use Rattle.cat_collections.specs.Places.{before}
 use Rattle.cat_search.specs.Index.{term_cmp}
 use Rattle.cat_pages.specs.Walked.{begins, key_of}
 use Rattle.cat_pages.proofs.listed.start_of.Goals as goal

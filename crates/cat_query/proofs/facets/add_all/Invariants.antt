@@ -1,6 +1,6 @@
 use Rattle.std.proofs.Common.{◌≡◌}
-use Rattle.cat_table.specs.Left.{items_left}
-use Rattle.cat_table.specs.Table.{keys}
+use Rattle.cat_collections.specs.Left.{items_left}
+use Rattle.cat_collections.specs.Table.{keys}
 use Rattle.cat_query.specs.Facets.{all_more}
 use Rattle.cat_query.proofs.facets.add_all.Given as goal
 

@@ -1,7 +1,7 @@
 use Rattle.std.proofs.Common.{ap, map, ◌∙◌, sym}
 use Rattle.std.proofs.lemmas.List.{drop_all}
 use Rattle.std.specs.Option.{unwrap_or}
-use Rattle.cat_table.specs.Table.{get}
+use Rattle.cat_collections.specs.Table.{get}
 use Rattle.cat_query.specs.Facets.{counted, values_among}
 use Rattle.cat_pages.specs.Page.{pair_seen}
 use Rattle.cat_query.proofs.Numbers.{number_at}

@@ -1,6 +1,6 @@
 use Rattle.std.proofs.Common.{◌≡◌, ◌++◌, map}
 use Rattle.cat_tree.specs.View.{entry_of}
-use Rattle.cat_table.specs.Left.{items_left}
+use Rattle.cat_collections.specs.Left.{items_left}
 use Rattle.cat_query.specs.Facets.{facet_data}
 use Rattle.cat_pages.specs.Page.{pair_seen}
 use Rattle.cat_query.proofs.facets.facet_list.Given as goal

@@ -1,7 +1,7 @@
 use Rattle.std.proofs.Common.{map, ap, sym, subst, ◌∙◌}
 use Rattle.std.specs.List.Sorted.{IsStrictlySortedBy}
 use Rattle.cat_tree.specs.Data.{keys_of}
-use Rattle.cat_table.specs.Table.{keys, text_cmp}
+use Rattle.cat_collections.specs.Table.{keys, text_cmp}
 use Rattle.cat_query.specs.Facets.{facet_data}
 use Rattle.cat_pages.specs.Page.{pair_seen}
 use Rattle.cat_query.proofs.Numbers.{keys_of_made, keys_rise, made_of_keys}

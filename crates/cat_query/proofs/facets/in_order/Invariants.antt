@@ -1,5 +1,5 @@
 use Rattle.std.proofs.Common.{◌≡◌, ◌≤◌, length, drop, Some}
-use Rattle.cat_table.specs.Table.{tabulate, text_cmp}
+use Rattle.cat_collections.specs.Table.{tabulate, text_cmp}
 use Rattle.cat_query.proofs.facets.in_order.Given as goal
 
 -- those from the place on are in order

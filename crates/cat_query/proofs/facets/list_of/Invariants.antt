@@ -1,6 +1,6 @@
 use Rattle.std.proofs.Common.{◌≡◌, ◌++◌, map}
 use Rattle.cat_tree.specs.View.{data_of}
-use Rattle.cat_table.specs.Left.{items_left}
+use Rattle.cat_collections.specs.Left.{items_left}
 use Rattle.cat_query.specs.Facets.{count_data}
 use Rattle.cat_query.proofs.facets.list_of.Given as goal
 

@@ -1,6 +1,6 @@
 use Rattle.std.proofs.Common.{◌≡◌, ◌++◌, map}
 use Rattle.std.specs.List.{flat_map}
-use Rattle.cat_table.specs.Left.{items_left}
+use Rattle.cat_collections.specs.Left.{items_left}
 use Rattle.cat_model.specs.Catalogue.{holding}
 use Rattle.cat_model.specs.Reply.{conflict_with, waiting}
 use Rattle.cat_replies.specs.Shown as seen

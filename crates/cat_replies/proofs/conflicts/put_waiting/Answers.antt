@@ -1,7 +1,7 @@
 use Rattle.std.proofs.Common.{ap, sym, map, ◌∙◌}
 use Rattle.std.specs.Prelude.{option_map}
 use Rattle.std.proofs.lemmas.Result.{on_ok_weaker}
-use Rattle.cat_table.specs.Table.{put_some}
+use Rattle.cat_collections.specs.Table.{put_some}
 use Rattle.cat_model.specs.Reply.{place_cmp}
 use Rattle.cat_replies.specs.Shown as seen
 use Rattle.cat_replies.proofs.Waiting.{waiting-put, on_ok_if}

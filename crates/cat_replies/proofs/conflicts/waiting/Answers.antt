@@ -2,7 +2,7 @@ use Rattle.std.proofs.Common.{◌≡◌, ℕ, ◌<◌, ◌-◌, suc, arith, ap, 
 use Rattle.std.proofs.Math.ListN.{get_or-map}
 use Rattle.std.proofs.lemmas.List.{length-map}
 use Rattle.std.specs.Borrow.{Bor}
-use Rattle.cat_table.specs.Table.{put_some}
+use Rattle.cat_collections.specs.Table.{put_some}
 use Rattle.cat_model.specs.Catalogue.{row_at}
 use Rattle.cat_model.specs.Reply.{RowPlace, place_cmp, waits}
 use Rattle.cat_model.specs.declared.types.Row.{Row}

@@ -1,5 +1,5 @@
 use Rattle.std.proofs.Common.{◌≡◌, ◌≤◌, drop, length, map}
-use Rattle.cat_table.specs.Table.{tabulate}
+use Rattle.cat_collections.specs.Table.{tabulate}
 use Rattle.cat_model.specs.Catalogue.{row_at}
 use Rattle.cat_model.specs.Reply.{place_cmp, waits}
 use Rattle.cat_replies.specs.Shown as seen

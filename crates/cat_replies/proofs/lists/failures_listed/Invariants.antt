@@ -1,5 +1,5 @@
 use Rattle.std.proofs.Common.{◌≡◌, ◌++◌, map}
-use Rattle.cat_owned.specs.BoxedLeft.{boxed_left}
+use Rattle.cat_owned_map.specs.BoxedLeft.{boxed_left}
 use Rattle.cat_tree.specs.View.{data_of}
 use Rattle.cat_replies.specs.Lists.{failures_in}
 use Rattle.cat_replies.proofs.lists.failures_listed.Given as goal

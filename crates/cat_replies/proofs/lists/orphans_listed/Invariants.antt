@@ -1,5 +1,5 @@
 use Rattle.std.proofs.Common.{◌≡◌, ◌++◌, map}
-use Rattle.cat_table.specs.Left.{items_left}
+use Rattle.cat_collections.specs.Left.{items_left}
 use Rattle.cat_tree.specs.Data.{words}
 use Rattle.cat_tree.specs.View.{data_of}
 use Rattle.cat_replies.proofs.lists.orphans_listed.Given as goal

@@ -1,5 +1,5 @@
 use Rattle.std.proofs.Common.{◌≡◌}
-use Rattle.cat_table.specs.Left.{items_left}
+use Rattle.cat_collections.specs.Left.{items_left}
 use Rattle.cat_sample.specs.Summary.{document_at}
 use Rattle.cat_sample.proofs.summary.document_at.Given as goal
 

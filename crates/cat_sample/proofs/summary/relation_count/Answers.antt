@@ -1,5 +1,5 @@
 use Rattle.std.proofs.Common.{◌+◌, sym, ap, ◌∙◌, arith}
-use Rattle.cat_table.specs.Left.{items_left}
+use Rattle.cat_collections.specs.Left.{items_left}
 use Rattle.cat_sample.specs.Summary.{capped, relation_count}
 use Rattle.cat_sample.proofs.Counts.{counts_begun, counts_ended}
 use Rattle.cat_sample.proofs.summary.relation_count.Goals as goal

@@ -1,5 +1,5 @@
 use Rattle.std.proofs.Common.{◌≡◌}
-use Rattle.cat_table.specs.Left.{items_left}
+use Rattle.cat_collections.specs.Left.{items_left}
 use Rattle.cat_search.specs.Index.{corrected}
 use Rattle.cat_search.proofs.corrections.corrected.Given as goal
 

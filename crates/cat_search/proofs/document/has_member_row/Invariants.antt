@@ -2,7 +2,7 @@ use Rattle.std.proofs.Common.{◌≡◌, map, drop, true}
 use Rattle.std.specs.Option.{option_copied}
 use Rattle.cat_tree.specs.Data.{members_of}
 use Rattle.cat_tree.specs.View.{entry_of}
-use Rattle.cat_values.specs.Rows.{own_members}
+use Rattle.cat_state_parts.specs.Rows.{own_members}
 use Rattle.cat_search.specs.Walk.{is_found_in_members}
 use Rattle.cat_search.proofs.document.has_member_row.Given as goal
 

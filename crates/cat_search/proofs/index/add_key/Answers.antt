@@ -1,6 +1,6 @@
 use Rattle.std.proofs.Common.{ap, ◌∙◌}
-use Rattle.cat_table.specs.Table.{put, text_cmp}
-use Rattle.cat_values.specs.Rows.{folded}
+use Rattle.cat_collections.specs.Table.{put, text_cmp}
+use Rattle.cat_state_parts.specs.Rows.{folded}
 use Rattle.cat_search.proofs.Finds.{after_change}
 use Rattle.cat_search.proofs.index.add_key.Goals as goal
 

@@ -1,5 +1,5 @@
 use Rattle.std.proofs.Common.{◌≡◌, ◌++◌, map}
-use Rattle.cat_table.specs.Left.{items_left}
+use Rattle.cat_collections.specs.Left.{items_left}
 use Rattle.cat_search.proofs.index.all_entries.Given as goal
 
 -- the entries so far and those that are left are all

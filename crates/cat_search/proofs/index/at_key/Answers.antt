@@ -1,6 +1,6 @@
 use Rattle.std.proofs.Common.{[], ap, unwrap_or, ◌∙◌}
-use Rattle.cat_table.specs.Table.{get}
-use Rattle.cat_values.specs.Rows.{folded}
+use Rattle.cat_collections.specs.Table.{get}
+use Rattle.cat_state_parts.specs.Rows.{folded}
 use Rattle.cat_search.proofs.Finds.{given}
 use Rattle.cat_search.proofs.index.at_key.Goals as goal
 

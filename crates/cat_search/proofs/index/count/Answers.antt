@@ -1,6 +1,6 @@
 use Rattle.std.proofs.Common.{ap, length, sym, ◌∙◌}
 use Rattle.std.specs.FinMap.Entries.{is_sorted}
-use Rattle.cat_table.specs.Table.{keys, text_cmp}
+use Rattle.cat_collections.specs.Table.{keys, text_cmp}
 use Rattle.cat_search.specs.Index.{corrected, found}
 use Rattle.cat_search.proofs.Finds.{all_found, found_keys}
 use Rattle.cat_search.proofs.Counted.{length_keys}

@@ -1,5 +1,5 @@
 use Rattle.std.proofs.Common.{ap, map, ◌∙◌}
-use Rattle.cat_table.specs.Table.{put, text_cmp}
+use Rattle.cat_collections.specs.Table.{put, text_cmp}
 use Rattle.cat_search.specs.Index.{term_cmp, with_references}
 use Rattle.cat_search.proofs.Finds.{after_change}
 use Rattle.cat_search.proofs.index.enter_run.Goals as goal

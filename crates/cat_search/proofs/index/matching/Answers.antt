@@ -1,6 +1,6 @@
 use Rattle.std.proofs.Common.{ap, sym, ◌∙◌}
 use Rattle.std.specs.FinMap.Entries.{is_sorted}
-use Rattle.cat_table.specs.Table.{keys, text_cmp}
+use Rattle.cat_collections.specs.Table.{keys, text_cmp}
 use Rattle.cat_search.specs.Filter.{matching}
 use Rattle.cat_search.specs.Index.{corrected}
 use Rattle.cat_search.proofs.Entries.{all_match, documents_found}

@@ -1,6 +1,6 @@
 use Rattle.std.proofs.Common.{ap, cond, sym, ◌∙◌}
-use Rattle.cat_table.specs.Rows.{without}
-use Rattle.cat_table.specs.Table.{put}
+use Rattle.cat_collections.specs.Rows.{without}
+use Rattle.cat_collections.specs.Table.{put}
 use Rattle.cat_search.specs.Index.{term_cmp}
 use Rattle.cat_search.proofs.Finds.{after_change}
 use Rattle.cat_search.proofs.index.put_set.Goals as goal

@@ -1,7 +1,7 @@
 use Rattle.std.proofs.Common.{refl}
 use Rattle.cat_search.specs.Index.{with_documents, without_references}
 use Rattle.cat_search.proofs.Listed.{agree_listed}
-use Rattle.cat_values.proofs.Waiting.{same_index}
+use Rattle.cat_state_parts.proofs.Waiting.{same_index}
 use Rattle.cat_search.proofs.index.with_listed.Goals as goal
 
 pub of_parts-requires-clause-lists : goal.of_parts-requires-clause-lists

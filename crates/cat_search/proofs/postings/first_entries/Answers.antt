@@ -1,6 +1,6 @@
 use Rattle.std.proofs.Common.{◌++◌, ◌∷◌, [], ap, take, ◌-◌, ◌∙◌}
-use Rattle.cat_table.specs.Left.{items_left}
-use Rattle.cat_table.specs.Table.{keys}
+use Rattle.cat_collections.specs.Left.{items_left}
+use Rattle.cat_collections.specs.Table.{keys}
 use Rattle.cat_search.proofs.Listed.{first_next}
 use Rattle.cat_search.proofs.postings.first_entries.Goals as goal
 

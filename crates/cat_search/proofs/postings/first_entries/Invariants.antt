@@ -1,6 +1,6 @@
 use Rattle.std.proofs.Common.{◌≡◌, ◌++◌, take}
-use Rattle.cat_table.specs.Left.{items_left}
-use Rattle.cat_table.specs.Table.{keys}
+use Rattle.cat_collections.specs.Left.{items_left}
+use Rattle.cat_collections.specs.Table.{keys}
 use Rattle.cat_search.proofs.postings.first_entries.Given as goal
 
 -- the references so far and the first of those that are left are the first of all

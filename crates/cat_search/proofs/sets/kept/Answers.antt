@@ -1,5 +1,5 @@
 use Rattle.std.proofs.Common.{◌≤◌, length, ap, sym, subst, ◌∙◌}
-use Rattle.cat_table.specs.Table.{text_cmp}
+use Rattle.cat_collections.specs.Table.{text_cmp}
 use Rattle.std.specs.FinMap.Entries.{is_sorted}
 use Rattle.cat_search.specs.Index.{Set, in_all}
 use Rattle.cat_search.proofs.Finds.{kept_most, kept_rises}

@@ -1,7 +1,7 @@
 use Rattle.std.proofs.Common.{◌≡◌, ◌++◌, map, drop}
 use Rattle.cat_tree.specs.Data.{items_of, members_of}
 use Rattle.cat_tree.specs.View.{data_of, entry_of, weight}
-use Rattle.cat_values.specs.Rows.{item_rows, member_rows}
+use Rattle.cat_state_parts.specs.Rows.{item_rows, member_rows}
 use Rattle.cat_search.specs.Terms.{terms}
 use Rattle.cat_search.proofs.terms.+add_tree.Given as goal
 

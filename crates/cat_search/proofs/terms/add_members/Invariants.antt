@@ -1,7 +1,7 @@
 use Rattle.std.proofs.Common.{◌≡◌, ◌++◌, [], map, drop}
 use Rattle.cat_tree.specs.Data.{members_of}
 use Rattle.cat_tree.specs.View.{entry_of}
-use Rattle.cat_values.specs.Rows.{member_rows, own_members}
+use Rattle.cat_state_parts.specs.Rows.{member_rows, own_members}
 use Rattle.cat_search.specs.Terms.{terms}
 use Rattle.cat_search.proofs.terms.add_members.Given as goal
 

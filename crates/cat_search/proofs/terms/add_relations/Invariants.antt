@@ -1,7 +1,7 @@
 use Rattle.std.proofs.Common.{◌≡◌, ◌++◌, map, drop}
 use Rattle.cat_tree.specs.Data.{items_of}
 use Rattle.cat_tree.specs.View.{data_of}
-use Rattle.cat_values.specs.Rows.{relation_items}
+use Rattle.cat_state_parts.specs.Rows.{relation_items}
 use Rattle.cat_search.specs.Terms.{terms}
 use Rattle.cat_search.proofs.terms.add_relations.Given as goal
 

@@ -1,7 +1,7 @@
 use Rattle.std.proofs.Common.{◌≡◌, ◌++◌, map, drop, true}
 use Rattle.cat_tree.specs.Data.{members_of}
 use Rattle.cat_tree.specs.View.{entry_of}
-use Rattle.cat_values.specs.Rows.{own_members}
+use Rattle.cat_state_parts.specs.Rows.{own_members}
 use Rattle.cat_search.specs.Walk.{values_in_members}
 use Rattle.cat_search.proofs.values.add_members.Given as goal
 

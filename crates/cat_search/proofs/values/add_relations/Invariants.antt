@@ -1,7 +1,7 @@
 use Rattle.std.proofs.Common.{◌≡◌, ◌++◌, map, drop}
 use Rattle.cat_tree.specs.Data.{items_of}
 use Rattle.cat_tree.specs.View.{data_of}
-use Rattle.cat_values.specs.Rows.{relation_items, values_at}
+use Rattle.cat_state_parts.specs.Rows.{relation_items, values_at}
 use Rattle.cat_search.proofs.values.add_relations.Given as goal
 
 -- the values so far and those that are left are all

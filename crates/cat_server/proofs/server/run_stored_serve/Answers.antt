@@ -2,7 +2,7 @@ use Rattle.std.proofs.Common.{subst}
 use Rattle.std.specs.Prelude.{IfSome}
 use Rattle.cat_model.specs.declared.types.OrphanRule.TheVariants.{Keep}
 use Rattle.cat_store.specs.Refused.{IsNamed}
-use Rattle.cat_transcript.specs.Program.{program_settings}
+use Rattle.cat_session_model.specs.Program.{program_settings}
 use Rattle.cat_server.proofs.server.run_stored_serve.Goals as goal
 
 pub returns-in-Err-clause-refused : goal.returns-in-Err-clause-refused

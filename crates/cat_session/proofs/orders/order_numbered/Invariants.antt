@@ -1,5 +1,5 @@
 use Rattle.std.proofs.Common.{◌≡◌, drop}
-use Rattle.cat_transcript.specs.Session.{order_numbered}
+use Rattle.cat_session_model.specs.Session.{order_numbered}
 use Rattle.cat_session.proofs.orders.order_numbered.Given as goal
 
 -- what is found is found in what is left

@@ -1,6 +1,6 @@
 use Rattle.std.proofs.Common.{◌≤◌}
 use Rattle.cat_events.specs.Coming.{IsSteady}
-use Rattle.cat_reached.specs.Gathered.{Gathers}
+use Rattle.cat_affected.specs.Gathered.{Gathers}
 use Rattle.cat_settle.specs.Part.{Goes, HaveRounds}
 use Rattle.cat_settle.proofs.Moves.{left}
 use Rattle.cat_settle.proofs.rounds.all_rounds.Given as goal

@@ -1,5 +1,5 @@
 use Rattle.std.proofs.Common.{◌≡◌, cond, ap, sym, ◌∙◌, is_some}
-use Rattle.cat_table.proofs.Tables.{none_or_some, or_false_first}
+use Rattle.cat_collections.proofs.Tables.{none_or_some, or_false_first}
 use Rattle.cat_model.specs.Settle.{counted, due_refs, is_empty, is_ended, try_turns}
 use Rattle.cat_settle.proofs.Parts.{came_same, counted_goes}
 use Rattle.cat_settle.proofs.rounds.one_round.Goals as goal

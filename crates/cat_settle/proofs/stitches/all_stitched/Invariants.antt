@@ -2,7 +2,7 @@ use Rattle.std.proofs.Common.{◌≤◌, [], drop}
 use Rattle.std.specs.declared.option.Option.TheVariants.{Some}
 use Rattle.cat_model.specs.Settle.{try_stitches}
 use Rattle.cat_events.specs.Coming.{IsSteady}
-use Rattle.cat_reached.specs.Gathered.{IsWithin}
+use Rattle.cat_affected.specs.Gathered.{IsWithin}
 use Rattle.cat_settle.specs.Part.{Goes}
 use Rattle.cat_settle.proofs.Parts.{Leads}
 use Rattle.cat_settle.proofs.stitches.all_stitched.Given as goal

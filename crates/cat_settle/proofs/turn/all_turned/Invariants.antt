@@ -1,7 +1,7 @@
 use Rattle.std.proofs.Common.{◌≤◌, drop}
 use Rattle.cat_model.specs.Settle.{try_turns}
 use Rattle.cat_events.specs.Coming.{IsSteady}
-use Rattle.cat_reached.specs.Gathered.{Gathers}
+use Rattle.cat_affected.specs.Gathered.{Gathers}
 use Rattle.cat_settle.specs.Part.{Goes}
 use Rattle.cat_settle.proofs.Parts.{Leads}
 use Rattle.cat_settle.proofs.turn.all_turned.Given as goal

@@ -1,5 +1,5 @@
 use Rattle.std.proofs.Common.{subst}
-use Rattle.cat_reached.specs.Gathered.{IsGathered}
+use Rattle.cat_affected.specs.Gathered.{IsGathered}
 use Rattle.cat_settle.proofs.Gathering.{finish_gathers}
 use Rattle.cat_settle.proofs.turn.finished_and_gathered.Goals as goal
 

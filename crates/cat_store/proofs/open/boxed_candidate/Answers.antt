@@ -1,7 +1,7 @@
 use Rattle.std.proofs.Common.{◌≡◌, subst}
 use Rattle.std.specs.Prelude.{MatchOption}
-use Rattle.cat_opening.specs.Candidate.{IsCandidate}
-use Rattle.cat_opening.specs.Read.{AreNoTexts}
+use Rattle.cat_row_reader.specs.Candidate.{IsCandidate}
+use Rattle.cat_row_reader.specs.Read.{AreNoTexts}
 use Rattle.cat_store.proofs.open.boxed_candidate.Goals as goal
 
 pub returns-in-None : goal.returns-in-None

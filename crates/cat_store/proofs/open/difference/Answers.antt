@@ -1,9 +1,9 @@
 use Rattle.std.proofs.Common.{◌≡◌, inl, subst}
 use Rattle.std.specs.Prelude.{MatchOption}
-use Rattle.cat_opening.specs.Candidate.{IsCandidate}
-use Rattle.cat_opening.specs.Read.{AreNoTexts}
-use Rattle.cat_tables.specs.Opened.{is_first, rows_in}
-use Rattle.cat_tables.specs.Stored.{texts_of}
+use Rattle.cat_row_reader.specs.Candidate.{IsCandidate}
+use Rattle.cat_row_reader.specs.Read.{AreNoTexts}
+use Rattle.cat_stored_rows.specs.Opened.{is_first, rows_in}
+use Rattle.cat_stored_rows.specs.Stored.{texts_of}
 use Rattle.cat_store.specs.Boxed.{unboxed}
 use Rattle.cat_store.proofs.Naming.{named_after}
 use Rattle.cat_store.proofs.open.difference.Goals as goal

@@ -1,8 +1,8 @@
 use Rattle.std.proofs.Common.{◌≡◌, subst}
 use Rattle.std.specs.Prelude.{IfSome}
 use Rattle.cat_model.specs.Step.{reopened}
-use Rattle.cat_tables.specs.Opened.{is_first, rows_in}
-use Rattle.cat_tables.specs.Stored.{texts_of}
+use Rattle.cat_stored_rows.specs.Opened.{is_first, rows_in}
+use Rattle.cat_stored_rows.specs.Stored.{texts_of}
 use Rattle.cat_store.specs.Boxed.{unboxed}
 use Rattle.cat_store.proofs.Accepting.{refused_other, refused_untold}
 use Rattle.cat_store.proofs.Ruling.{has_rule, second_rule}

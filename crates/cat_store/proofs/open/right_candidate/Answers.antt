@@ -1,8 +1,8 @@
 use Rattle.std.proofs.Common.{◌≡◌, ◌&&◌, nat_le, subst}
 use Rattle.std.specs.Prelude.{MatchOption}
-use Rattle.cat_opening.specs.Candidate.{IsCandidate}
-use Rattle.cat_opening.specs.Forms.{has_forms}
-use Rattle.cat_opening.specs.Read.{AreNoTexts}
+use Rattle.cat_row_reader.specs.Candidate.{IsCandidate}
+use Rattle.cat_row_reader.specs.Forms.{has_forms}
+use Rattle.cat_row_reader.specs.Read.{AreNoTexts}
 use Rattle.cat_store.specs.Boxed.{unboxed}
 use Rattle.cat_store.proofs.Accepting.{refused_unread, refused_wrong}
 use Rattle.cat_store.proofs.open.right_candidate.Goals as goal

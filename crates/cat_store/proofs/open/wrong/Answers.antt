@@ -1,6 +1,6 @@
 use Rattle.std.proofs.Common.{inl, inr, subst}
 use Rattle.std.proofs.lemmas.Result.{IfOk-weaker}
-use Rattle.cat_breaches.specs.First.{IsVerdict}
+use Rattle.cat_row_faults.specs.First.{IsVerdict}
 use Rattle.cat_store.proofs.open.wrong.Goals as goal
 
 pub returns-in-Some : goal.returns-in-Some

@@ -1,6 +1,6 @@
 use Rattle.std.proofs.Common.{◌≡◌}
 use Rattle.std.specs.List.{list_all}
-use Rattle.cat_owned.specs.BoxedLeft.{boxed_left}
+use Rattle.cat_owned_map.specs.BoxedLeft.{boxed_left}
 use Rattle.cat_store.specs.Tells.{is_narrow_record}
 use Rattle.cat_store.proofs.tells.are_narrow_records.Given as goal
 

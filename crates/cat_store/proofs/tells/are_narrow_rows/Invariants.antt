@@ -1,6 +1,6 @@
 use Rattle.std.proofs.Common.{◌≡◌}
 use Rattle.std.specs.List.{list_all}
-use Rattle.cat_table.specs.Left.{items_left}
+use Rattle.cat_collections.specs.Left.{items_left}
 use Rattle.cat_store.specs.Tells.{is_narrow_row}
 use Rattle.cat_store.proofs.tells.are_narrow_rows.Given as goal
 

@@ -1,7 +1,7 @@
 use Rattle.std.proofs.Common.{◌≡◌, Some, map, string_bytes}
-use Rattle.cat_words.specs.Words.{command_of}
-use Rattle.cat_words.specs.declared.words.Command.TheVariants.{Serve, Sample}
-use Rattle.cat_words.proofs.Bounds.{samples_small, serves_some}
+use Rattle.cat_command_line.specs.Words.{command_of}
+use Rattle.cat_command_line.specs.declared.words.Command.TheVariants.{Serve, Sample}
+use Rattle.cat_command_line.proofs.Bounds.{samples_small, serves_some}
 use Rattle.cat_tool.proofs.top.carried_out.Goals as goal
 
 pub run_server-requires-clause-crew : goal.run_server-requires-clause-crew

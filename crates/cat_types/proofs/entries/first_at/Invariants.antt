@@ -1,5 +1,5 @@
 use Rattle.std.proofs.Common.{◌≡◌, drop}
-use Rattle.cat_table.specs.Table.{find}
+use Rattle.cat_collections.specs.Table.{find}
 use Rattle.cat_types.proofs.entries.first_at.Given as goal
 
 -- what is found is found in what is left

@@ -1,4 +1,4 @@
-use Rattle.cat_table.proofs.Placed.{find_at, find_between}
+use Rattle.cat_collections.proofs.Placed.{find_at, find_between}
 use Rattle.cat_types.proofs.entries.get.Goals as goal
 
 pub returns-in-Ok : goal.returns-in-Ok

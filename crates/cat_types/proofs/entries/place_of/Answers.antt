@@ -1,7 +1,7 @@
 use Rattle.std.proofs.Common.{rules}
 use Rattle.std.specs.Ordering.{ordering_reverse}
 use Rattle.std.proofs.lemmas.Fn.{always_returns_same}
-use Rattle.cat_table.proofs.Placed.{spot}
+use Rattle.cat_collections.proofs.Placed.{spot}
 use Rattle.cat_types.proofs.entries.place_of.Goals as goal
 
 pub returns : goal.returns

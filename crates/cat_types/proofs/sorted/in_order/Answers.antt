@@ -1,7 +1,7 @@
 use Rattle.std.proofs.Common.{rules}
 use Rattle.std.specs.Ordering.{eq_by_cmp}
 use Rattle.std.proofs.lemmas.Fn.{dedup_same}
-use Rattle.cat_table.proofs.Orders.{sorted_from_sort_by, in_order_from_sort}
+use Rattle.cat_collections.proofs.Orders.{sorted_from_sort_by, in_order_from_sort}
 use Rattle.cat_types.proofs.sorted.in_order.Goals as goal
 
 pub returns : goal.returns

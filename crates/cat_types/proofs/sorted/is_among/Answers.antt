@@ -1,7 +1,7 @@
 use Rattle.std.proofs.Common.{rules, ◌∙◌}
 use Rattle.std.specs.Ordering.{ordering_reverse}
 use Rattle.std.proofs.lemmas.Fn.{always_returns_same}
-use Rattle.cat_table.proofs.Placed.{found_in}
+use Rattle.cat_collections.proofs.Placed.{found_in}
 use Rattle.cat_types.proofs.sorted.is_among.Goals as goal
 
 pub returns : goal.returns

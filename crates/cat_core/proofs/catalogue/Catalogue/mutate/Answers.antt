@@ -1,5 +1,5 @@
 use Rattle.std.proofs.Common.{◌≡◌, ◌<◌, arith, sym, subst, ◌∙◌}
-use Rattle.cat_table.specs.Table.{get}
+use Rattle.cat_collections.specs.Table.{get}
 use Rattle.cat_model.specs.declared.types.Acted.TheVariants.{Now}
 use Rattle.cat_model.specs.Given.{given}
 use Rattle.cat_model.specs.Reply.{acted}

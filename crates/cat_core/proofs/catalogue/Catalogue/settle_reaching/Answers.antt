@@ -2,7 +2,7 @@ use Rattle.std.proofs.Common.{◌≡◌, IfOk, IfErr, subst}
 use Rattle.std.specs.declared.option.Option.TheVariants.{None}
 use Rattle.cat_model.specs.Reply.{counts}
 use Rattle.cat_model.specs.Settle.{try_settle}
-use Rattle.cat_reached.specs.Gathered.{IsWithin}
+use Rattle.cat_affected.specs.Gathered.{IsWithin}
 use Rattle.cat_settle.proofs.Gathering.{within_itself}
 use Rattle.cat_core.specs.Answer.{IsCutSettle}
 use Rattle.cat_core.proofs.catalogue.Catalogue.settle_reaching.Goals as goal

@@ -1,5 +1,5 @@
 use Rattle.std.proofs.Common.{[], unwrap_or, ap, ◌∙◌}
-use Rattle.cat_table.specs.Table.{keys}
+use Rattle.cat_collections.specs.Table.{keys}
 use Rattle.cat_links.specs.Links.{relations_of}
 use Rattle.cat_links.proofs.Counted.{linked}
 use Rattle.cat_links.proofs.links.Links.of.Goals as goal

@@ -1,8 +1,8 @@
 use Rattle.std.proofs.Common.{◌≡◌, List, sym, subst, ◌∙◌}
 use Rattle.std.specs.List.{filter}
-use Rattle.cat_table.specs.Table.{Text, text_cmp}
-use Rattle.cat_table.specs.Order.{in_order}
-use Rattle.cat_table.proofs.Placed.{to_T}
+use Rattle.cat_collections.specs.Table.{Text, text_cmp}
+use Rattle.cat_collections.specs.Order.{in_order}
+use Rattle.cat_collections.proofs.Placed.{to_T}
 use Rattle.cat_links.specs.Links.{Emitted, comes_or_goes, sources}
 use Rattle.cat_links.specs.Changes.{AreChanged, touched, with_changes}
 use Rattle.cat_links.proofs.Changed.{are_changed}

@@ -1,7 +1,7 @@
 use Rattle.std.proofs.Common.{arith, ap, sym, ◌∙◌, ◌+◌, ◌∷◌, List, drop, length}
 use Rattle.std.proofs.lemmas.List.{drop_more}
 use Rattle.std.specs.Vec.Iter.{into_iter_items}
-use Rattle.cat_table.specs.Table.{Map, Text, puts, text_cmp, text_total, text_antisymmetric}
+use Rattle.cat_collections.specs.Table.{Map, Text, puts, text_cmp, text_total, text_antisymmetric}
 use Rattle.cat_types.specs.Amended.{without_all}
 use Rattle.cat_model.specs.declared.types.Record.{Record}
 use Rattle.cat_model.proofs.Dues.{count_least, count_most}

@@ -1,7 +1,7 @@
 use Rattle.std.proofs.Common.{◌≡◌, ◌≤◌, ◌+◌, drop, length}
 use Rattle.std.specs.Vec.Iter.{into_iter_items}
-use Rattle.cat_table.specs.Table.{puts, text_cmp}
-use Rattle.cat_table.specs.declared.tree.TheConstants.{MOST}
+use Rattle.cat_collections.specs.Table.{puts, text_cmp}
+use Rattle.cat_collections.specs.declared.tree.TheConstants.{MOST}
 use Rattle.cat_types.specs.Amended.{amended, without_all}
 use Rattle.cat_model.proofs.records.Records.amend.Given as goal
 

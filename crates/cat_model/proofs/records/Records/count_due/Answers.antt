@@ -1,7 +1,7 @@
 use Rattle.std.proofs.Common.{ap, ◌∙◌, length}
 use Rattle.std.specs.declared.option.Option.TheVariants.{Some}
 use Rattle.std.specs.List.{filter}
-use Rattle.cat_table.specs.Table.{Map}
+use Rattle.cat_collections.specs.Table.{Map}
 use Rattle.cat_model.specs.Dues.{is_due}
 use Rattle.cat_model.specs.declared.types.Record.{Record}
 use Rattle.cat_model.proofs.Counted.{count_is}

@@ -1,7 +1,7 @@
 use Rattle.std.proofs.Common.{◌≤◌, ◌-◌, ap, sym, subst, ◌∙◌, length}
 use Rattle.std.specs.declared.option.Option.TheVariants.{Some}
 use Rattle.std.specs.List.{filter}
-use Rattle.cat_table.specs.Table.{Map}
+use Rattle.cat_collections.specs.Table.{Map}
 use Rattle.cat_model.specs.Dues.{is_leased, refs_until}
 use Rattle.cat_model.specs.declared.types.Record.{Record}
 use Rattle.cat_model.proofs.Counted.{lapsed_most, leased_is}

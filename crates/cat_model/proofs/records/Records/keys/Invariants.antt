@@ -1,6 +1,6 @@
 use Rattle.std.proofs.Common.{◌≡◌, ◌++◌}
-use Rattle.cat_owned.specs.BoxedLeft.{boxed_left}
-use Rattle.cat_table.specs.Table.{keys}
+use Rattle.cat_owned_map.specs.BoxedLeft.{boxed_left}
+use Rattle.cat_collections.specs.Table.{keys}
 use Rattle.cat_model.proofs.records.Records.keys.Given as goal
 
 -- the references so far and those that are left are all references

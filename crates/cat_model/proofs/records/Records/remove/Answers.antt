@@ -1,6 +1,6 @@
 use Rattle.std.proofs.Common.{ap, ◌∙◌}
-use Rattle.cat_table.specs.Rows.{without}
-use Rattle.cat_table.specs.Table.{Text}
+use Rattle.cat_collections.specs.Rows.{without}
+use Rattle.cat_collections.specs.Table.{Text}
 use Rattle.cat_model.specs.Dues.{due_of, lapse_of, moment_cmp}
 use Rattle.cat_model.specs.declared.types.Record.{Record}
 use Rattle.cat_model.proofs.Dues.{none_out, taken_out}

@@ -1,6 +1,6 @@
 use Rattle.std.proofs.Common.{◌≡◌, sym, subst, nat_cmp}
 use Rattle.std.specs.declared.option.Option.TheVariants.{None}
-use Rattle.cat_table.specs.Table.{put, text_cmp}
+use Rattle.cat_collections.specs.Table.{put, text_cmp}
 use Rattle.cat_model.specs.Rows.{Rows, row_at, with_arrival, with_given, with_read}
 use Rattle.cat_model.proofs.Indexed.{put_indexed, same_indexed}
 use Rattle.cat_model.proofs.Named.{put_read, same_read}

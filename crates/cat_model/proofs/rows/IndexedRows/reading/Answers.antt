@@ -1,7 +1,7 @@
 use Rattle.std.proofs.Common.{ap, nat_cmp, sym, ◌∙◌}
 use Rattle.std.proofs.lemmas.Result.{IfOk-weaker}
 use Rattle.std.specs.FinMap.Entries.{is_sorted}
-use Rattle.cat_table.specs.Table.{keys}
+use Rattle.cat_collections.specs.Table.{keys}
 use Rattle.cat_model.specs.Rows.{Rows, reading}
 use Rattle.cat_model.proofs.Named.{read_are}
 use Rattle.cat_model.proofs.rows.IndexedRows.reading.Goals as goal

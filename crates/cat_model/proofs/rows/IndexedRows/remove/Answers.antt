@@ -1,6 +1,6 @@
 use Rattle.std.proofs.Common.{sym, subst, nat_cmp}
-use Rattle.cat_table.specs.Rows.{without}
-use Rattle.cat_table.specs.Table.{text_cmp}
+use Rattle.cat_collections.specs.Rows.{without}
+use Rattle.cat_collections.specs.Table.{text_cmp}
 use Rattle.cat_model.specs.Rows.{IsRowAt, Rows, names_of, row_at, without_arrival, without_given, without_names}
 use Rattle.cat_model.proofs.Indexed.{less_indexed, same_indexed}
 use Rattle.cat_model.proofs.Named.{less_read, same_read}

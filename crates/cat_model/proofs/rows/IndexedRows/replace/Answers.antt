@@ -1,5 +1,5 @@
 use Rattle.std.proofs.Common.{refl, sym, subst, nat_cmp}
-use Rattle.cat_table.specs.Table.{put}
+use Rattle.cat_collections.specs.Table.{put}
 use Rattle.cat_model.specs.Rows.{IsRowAt, Rows, with_read}
 use Rattle.cat_model.proofs.Indexed.{replaced_indexed, same_indexed}
 use Rattle.cat_model.proofs.Named.{put_read, same_read}

@@ -1,6 +1,6 @@
 use Rattle.std.proofs.Common.{◌≡◌, ◌++◌, map}
 use Rattle.cat_search.specs.Filter.{matching}
-use Rattle.cat_table.specs.Left.{items_left}
+use Rattle.cat_collections.specs.Left.{items_left}
 use Rattle.cat_pages.specs.Page.{pair_seen}
 use Rattle.cat_pages.proofs.documents.MapRefNodeDocuments.matching.Given as goal
 

@@ -1,6 +1,6 @@
 use Rattle.cat_session.proofs.Lines.{asked, carried, drops, forgets, mutates}
 use Rattle.cat_session.proofs.Said.{ok_then}
-use Rattle.cat_transcript.specs.Program.{program_settings}
+use Rattle.cat_session_model.specs.Program.{program_settings}
 use Rattle.cat_session.proofs.session.Session.carry_out.Goals as goal
 
 pub returns-in-Mutate-clause-ok : goal.returns-in-Mutate-clause-ok

@@ -3,8 +3,8 @@ use Rattle.cat_desk.specs.Deed.Deed.{Finish}
 use Rattle.cat_session.proofs.Lines.{carried, finishes}
 use Rattle.cat_session.proofs.Said.{ok_then}
 use Rattle.cat_session.specs.Carried.{CarriesDeed}
-use Rattle.cat_transcript.specs.Session.{order_numbered}
-use Rattle.cat_transcript.specs.Program.{program_settings}
+use Rattle.cat_session_model.specs.Session.{order_numbered}
+use Rattle.cat_session_model.specs.Program.{program_settings}
 use Rattle.cat_session.proofs.session.Session.finish.Goals as goal
 
 pub returns-in_ok-done-in-Some-clause-ok : goal.returns-in_ok-done-in-Some-clause-ok

@@ -3,7 +3,7 @@ use Rattle.cat_desk.specs.Deed.Deed.{PutStitch}
 use Rattle.cat_session.proofs.Lines.{carried, places}
 use Rattle.cat_session.proofs.Said.{ok_then}
 use Rattle.cat_session.specs.Carried.{CarriesDeed}
-use Rattle.cat_transcript.specs.Program.{program_settings}
+use Rattle.cat_session_model.specs.Program.{program_settings}
 use Rattle.cat_session.proofs.session.Session.place.Goals as goal
 
 pub returns-in_ok-stitched-in-Some-clause-ok : goal.returns-in_ok-stitched-in-Some-clause-ok

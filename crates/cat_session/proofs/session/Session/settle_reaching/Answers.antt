@@ -1,9 +1,9 @@
 use Rattle.std.proofs.Common.{refl}
-use Rattle.cat_commands.specs.declared.line.Line.TheVariants as asks
+use Rattle.cat_session_lines.specs.declared.line.Line.TheVariants as asks
 use Rattle.cat_desk.specs.Deed.Deed.{Settle}
 use Rattle.cat_session.proofs.Lines.{carried, settles}
 use Rattle.cat_session.proofs.Said.{ok_then}
-use Rattle.cat_transcript.specs.Program.{program_settings}
+use Rattle.cat_session_model.specs.Program.{program_settings}
 use Rattle.cat_session.proofs.session.Session.settle_reaching.Goals as goal
 
 pub returns-clause-ok : goal.returns-clause-ok

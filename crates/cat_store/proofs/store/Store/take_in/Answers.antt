@@ -1,5 +1,5 @@
 use Rattle.cat_keeper.specs.declared.keeper.Committed.TheVariants.{Kept}
-use Rattle.cat_tables.specs.Stored.{texts_of}
+use Rattle.cat_stored_rows.specs.Stored.{texts_of}
 use Rattle.cat_store.proofs.Told.{committed}
 use Rattle.cat_store.proofs.store.Store.take_in.Goals as goal
 

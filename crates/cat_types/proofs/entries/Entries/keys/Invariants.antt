@@ -1,5 +1,5 @@
 use Rattle.std.proofs.Common.{◌≡◌, take}
-use Rattle.cat_table.specs.Table.{keys}
+use Rattle.cat_collections.specs.Table.{keys}
 use Rattle.cat_types.proofs.entries.Entries.keys.Given as goal
 
 abbrev pub invariant-loop-key : goal.invariant-loop-key

@@ -1,7 +1,0 @@
-use Rattle.std.proofs.Common.{◌≡◌, ◌++◌, drop, map}
-use Rattle.cat_breaches.specs.Told.{offer_given}
-use Rattle.cat_breaches.proofs.tellers.push_offers.Given as goal
-
--- what is put so far, and the offers that are left, are all
-abbrev pub invariant-loop-offer : goal.invariant-loop-offer
-invariant-loop-offer l = l.out.items ++ map (offer_given l.emitter) (drop l.offer-index l.offers) ≡ l.initial.out.items ++ map (offer_given l.emitter) l.offers

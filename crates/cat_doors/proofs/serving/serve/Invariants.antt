@@ -1,4 +1,0 @@
-use Rattle.cat_doors.proofs.serving.serve.Given as goal
-
-abbrev pub ghosts-serve_under : goal.ghosts-serve_under
-ghosts-serve_under g a = record { doors = a.doors.ghost_name; faults = g.D.Doors.faults a.doors.now }

@@ -1,5 +1,0 @@
-use Rattle.cat_doors.proofs.Leading.{led_on}
-use Rattle.cat_doors.proofs.serving.serve_each.Goals as goal
-
-pub loop-preserved : goal.loop-preserved
-loop-preserved g c = led_on g.S.Server.serves _ _ _ c.loop.invariant c.serve_one.ensures

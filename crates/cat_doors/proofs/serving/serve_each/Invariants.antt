@@ -1,5 +1,0 @@
-use Rattle.cat_doors.specs.Helpers.{IsLed}
-use Rattle.cat_doors.proofs.serving.serve_each.Given as goal
-
-abbrev pub invariant-loop : goal.invariant-loop
-invariant-loop g l = IsLed g.S.Server.serves l.fn.server l.server

@@ -1,5 +1,0 @@
-use Rattle.std.proofs.Common.{length}
-use Rattle.cat_kept.proofs.sessions.+sittings.Given as goal
-
-abbrev pub decreases-sittings : goal.decreases-sittings
-decreases-sittings g l = length l.inputs.now

@@ -1,0 +1,73 @@
+//! Doors that several helpers share under a lock.
+
+ghost use Rattle.std.specs.Prelude.{◌≡◌, ℕ, ◌≤◌, IfErr};
+ghost use Rattle.std.specs.Borrow.{GName};
+ghost use Rattle.std.specs.declared.option.Option.TheVariants.{Some};
+ghost use Rattle.cat_io.specs.Causes.{Rose};
+ghost use Rattle.cat_listener.specs.Doors.{HaveClosed};
+ghost use Rattle.cat_listener.specs.declared.hall.Ended.TheVariants.{Closed, Failed};
+ghost use Rattle.cat_listener.specs.Hall.{HasCause};
+
+use crate::doors::{Accepted, Doors};
+use std::marker::{Brand, PhantomData};
+
+/// Why the doors let in no more connections.
+#[derive(Clone, Copy, Debug, Drop, PartialEq, Eq)]
+pub enum Ended {
+    /// They have closed.
+    Closed,
+    /// They failed.
+    Failed,
+}
+
+/// Which doors are shared, and what their count of faults was. Each sharing picks both.
+pub trait Named {
+    ghost doors: { GName };
+
+    ghost faults: { ℕ };
+}
+
+/// Doors that are lent, and why they let in no more, once they have said it. Its type keeps which doors they are, that their count of
+/// faults hasn't fallen, and that what they said has its cause.
+#[derive(Drop)]
+pub struct Hall<'a, D: Doors, N: Named> {
+    /// The doors.
+    pub doors: &'a mut D,
+    /// Why they let in no more, once they have said it.
+    pub ended: Option<Ended>,
+    /// Which doors they are.
+    pub named: PhantomData<N>,
+    ghost same: { doors.ghost_name ≡ N.doors },
+    ghost later: { N.faults ≤ D.faults doors.now },
+    ghost failed: { ended ≡ Some Failed → Rose N.faults (D.faults doors.now) },
+    ghost closed: { ended ≡ Some Closed → HaveClosed (D.closed doors.now) },
+}
+
+impl<'a, D: Doors, N: Named> Hall<'a, D, N> {
+    /// The next connection, or why there is none. Doors that have said that are asked no more.
+    pub fn next(&mut self) -> Result<D::Conn, Ended>
+        ensures name { self.new.doors.ghost_name ≡ self.old.doors.ghost_name }
+        ensures cause { IfErr result (λ ended. HasCause ended N.faults (D.faults self.new.doors.now) (D.closed self.new.doors.now)) }
+    {
+        if let Some(ended) = self.ended {
+            return Err(ended);
+        }
+        match self.doors.accept() {
+            Accepted::Conn(conn) => Ok(conn),
+            Accepted::Closed => {
+                self.ended = Some(Ended::Closed);
+                Err(Ended::Closed)
+            }
+            Accepted::Failed => {
+                self.ended = Some(Ended::Failed);
+                Err(Ended::Failed)
+            }
+        }
+    }
+}
+
+impl Named for Brand {
+    ghost doors = { 0 };
+
+    ghost faults = { 0 };
+}

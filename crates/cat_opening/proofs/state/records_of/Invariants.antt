@@ -1,9 +1,0 @@
-use Rattle.std.proofs.Common.{◌≡◌, drop}
-use Rattle.std.specs.List.{flat_map}
-use Rattle.cat_table.specs.Table.{puts, text_cmp}
-use Rattle.cat_opening.specs.Standing.{record_in, records_of}
-use Rattle.cat_opening.proofs.state.records_of.Given as goal
-
--- what the rows that are left make of those so far is the whole
-abbrev pub invariant-loop-row : goal.invariant-loop-row
-invariant-loop-row l = puts text_cmp (flat_map (record_in l.trees) (drop l.row-index l.rows)) l.made ≡ records_of l.trees l.rows

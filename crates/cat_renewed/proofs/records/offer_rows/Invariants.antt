@@ -1,8 +1,0 @@
-use Rattle.std.proofs.Common.{◌≡◌, map, take}
-use Rattle.cat_table.specs.Table.{get}
-use Rattle.cat_renewed.specs.Places.{offer_with}
-use Rattle.cat_renewed.proofs.records.offer_rows.Given as goal
-
--- so far stand the offers so far
-abbrev pub invariant-loop-reference : goal.invariant-loop-reference
-invariant-loop-reference l = l.rows.items ≡ map (offer_with (get l.arrivals)) (take l.reference-index l.offers)

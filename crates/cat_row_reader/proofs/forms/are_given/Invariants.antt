@@ -1,0 +1,11 @@
+use Rattle.std.proofs.Common.{◌≡◌}
+use Rattle.std.specs.List.{list_all}
+use Rattle.cat_collections.specs.Left.{items_left}
+use Rattle.cat_row_reader.specs.Forms.{is_given_row}
+use Rattle.cat_row_reader.proofs.forms.are_given.Given as goal
+
+abbrev pub invariant-loop-arrival : goal.invariant-loop-arrival
+invariant-loop-arrival l =
+    goal.iterator-loop-arrival.can_next l.arrival-iterator
+    × goal.iterator-loop-arrival.is_finite l.arrival-iterator
+    × (list_all is_given_row (items_left l.arrival-iterator) ≡ list_all is_given_row l.rows)

@@ -1,0 +1,156 @@
+//! A session, and a connection, over a store.
+
+ghost use Rattle.std.specs.Prelude.{◌≡◌, ◌≤◌, ◌⊎◌};
+ghost use Rattle.cat_feed.specs.Feed.{begun};
+ghost use Rattle.cat_io.specs.Causes.{Rose};
+ghost use Rattle.cat_keeper.specs.Answers.{Are, Stays};
+ghost use Rattle.cat_layers.specs.Layered.{layered};
+ghost use Rattle.cat_store.specs.Opened.{IsOpening};
+ghost use Rattle.cat_stored_rows.specs.Stored.{stored, texts_of};
+ghost use Rattle.cat_session_model.specs.Program.{program_settings};
+ghost use Rattle.cat_stored_session.specs.Stores.{HasKept, HasKeptWire, session_over};
+ghost use Rattle.cat_open_errors.specs.Unopened.{IsRefused, IsUnopenable};
+
+use crate::{KeptService, KeptSession, kept_connection};
+use cat_api::service::Service;
+use cat_connection::{Status, answer_lines};
+use cat_core::catalogue::Catalogue;
+use cat_io::{FixedClock, Sink, Source};
+use cat_keeper::keeper::{Keeper, Place};
+use cat_layers::layered::Layered;
+use cat_model::types::OrphanRule;
+use cat_open_errors::unopened;
+use cat_session::Session;
+use cat_session_model::settings::{INPUT_LIMIT, settings};
+use cat_store::open::{Opened, open};
+use cat_stored_desk::KeptDesk;
+use std::alloc::Global;
+
+/// How a command ended, and the keeper that it was given.
+#[derive(Drop)]
+pub struct Ran<K> {
+    /// The status with which the program ends.
+    pub status: Status,
+    /// The keeper. Where it tells its tables, it holds those of the state in which a session over it ended.
+    pub keeper: K,
+}
+
+// The session over what was opened.
+fn session_of<K: Keeper>(alloc: Global, opened: Opened<K>) -> KeptSession<Layered, K>
+    requires opening { IsOpening layered opened.links opened.state.value }
+    requires rows { opened.store.rows ≡ stored opened.store.orphans opened.state.value }
+    requires told { Are (K.tables opened.store.place opened.store.keeper) (texts_of opened.store.rows) }
+    ensures { result ≡ record { ruled = record { orphans = opened.store.orphans; session = session_over opened.state.value }; place = opened.store.place; refusals = 0 } }
+{
+    let Opened {
+        state,
+        links,
+        store,
+    } = opened;
+    let orphans = store.orphans;
+    let catalogue = Catalogue::over(Layered, settings(orphans), state, links);
+    let session = Session::over(alloc, Layered, catalogue, orphans);
+    KeptSession::new(alloc, session, store)
+}
+
+// The service over what was opened, at the moment 0.
+fn service_of<'a, K: Keeper>(alloc: Global, opened: Opened<K>) -> KeptService<'a, Layered, K>
+    requires opening { IsOpening layered opened.links opened.state.value }
+    requires rows { opened.store.rows ≡ stored opened.store.orphans opened.state.value }
+    requires told { Are (K.tables opened.store.place opened.store.keeper) (texts_of opened.store.rows) }
+    ensures catalogue { result.desk.catalogue ≡ record { settings = program_settings opened.store.orphans; state = opened.state.value } }
+    ensures moment { result.desk.clock.moment ≡ 0 }
+    ensures feed { result.desk.feed ≡ begun 0 }
+    ensures place { result.desk.store.place ≡ opened.store.place }
+    ensures refusals { result.desk.refusals ≡ 0 }
+{
+    let Opened {
+        state,
+        links,
+        store,
+    } = opened;
+    let catalogue = Catalogue::over(Layered, settings(store.orphans), state, links);
+    let desk = KeptDesk::new(alloc, catalogue, FixedClock::at(0), 0, store);
+    Service::new(alloc, desk)
+}
+
+/// Answers the lines of the source over the catalogue that the keeper has at a place, under this rule for orphans, or
+/// else under the stored one. The status is 5 where the keeper failed as the store was opened, and 6 where a row of the store has no reading
+/// or breaks a rule; the line `refused store TABLE KEY` names the first such row. It comes only where the rows are those of no state that opens.
+pub fn run_stored<S: Source, O: Sink, K: Keeper>(
+    alloc: Global,
+    orphans: Option<OrphanRule>,
+    place: Place,
+    keeper: K,
+    source: &mut S,
+    sink: &mut O,
+) -> Ran<K>
+    ensures kept { (result.status.0 ≡ 5) ⊎ ((result.status.0 ≡ 6) ⊎ (((result.status.0 ≡ 9) × Stays (K.tables place keeper) (K.tables place result.keeper))
+        ⊎ HasKept place orphans (K.tables place keeper) result.status.0 (S.left source.old) (S.left source.new)
+        (O.written sink.old) (O.written sink.new) (λ place. K.tables place result.keeper) (K.faults result.keeper))) }
+    ensures unread { (result.status.0 ≡ 5) ⊎ (result.status.0 ≡ 6) → source.new ≡ source.old }
+    ensures same { (result.status.0 ≡ 5) ⊎ (result.status.0 ≡ 6) → Stays (K.tables place keeper) (K.tables place result.keeper) }
+    ensures keeper_fault { result.status.0 ≡ 5 → Rose (K.faults keeper) (K.faults result.keeper) }
+    ensures refused { result.status.0 ≡ 6 → IsRefused (K.tables place keeper) (O.written sink.old) (O.written sink.new) (O.faults sink.old) (O.faults sink.new) }
+    ensures unopenable { result.status.0 ≡ 6 → IsUnopenable (K.tables place keeper) }
+    ensures read_fault { result.status.0 ≡ 3 → Rose (S.faults source.old) (S.faults source.new) }
+    ensures write_fault { result.status.0 ≡ 4 → Rose (O.faults sink.old) (O.faults sink.new) }
+    ensures memory { result.status.0 ≡ 9 → (source.new ≡ source.old) × (sink.new ≡ sink.old) }
+    ensures read_later { S.faults source.old ≤ S.faults source.new }
+    ensures write_later { O.faults sink.old ≤ O.faults sink.new }
+    ensures ended { (result.status.0 ≡ 0) ⊎ ((result.status.0 ≡ 3) ⊎ ((result.status.0 ≡ 4) ⊎ ((result.status.0 ≡ 5) ⊎ ((result.status.0 ≡ 6) ⊎ ((result.status.0 ≡ 9) ⊎ (result.status.0 ≡ 10)))))) }
+{
+    match open(alloc, &Layered, keeper, place, orphans, INPUT_LIMIT) {
+        Ok(opened) => {
+            let mut session = session_of(alloc, opened);
+            let status = answer_lines(alloc, &mut session, source, sink);
+            let keeper = session.into_keeper();
+            Ran { status, keeper }
+        }
+        Err((fault, keeper)) => {
+            let status = unopened(alloc, &fault, sink);
+            Ran { status, keeper }
+        }
+    }
+}
+
+/// The same for the messages of one HTTP connection, over a catalogue whose moment is 0.
+pub fn run_stored_connection<S: Source, O: Sink, K: Keeper>(
+    alloc: Global,
+    orphans: Option<OrphanRule>,
+    place: Place,
+    keeper: K,
+    source: &mut S,
+    sink: &mut O,
+) -> Ran<K>
+    ensures kept { (result.status.0 ≡ 5) ⊎ ((result.status.0 ≡ 6) ⊎ (((result.status.0 ≡ 9) × Stays (K.tables place keeper) (K.tables place result.keeper))
+        ⊎ HasKeptWire place orphans (K.tables place keeper) result.status.0 (S.left source.old) (S.left source.new)
+        (O.written sink.old) (O.written sink.new) (λ place. K.tables place result.keeper) (K.faults result.keeper))) }
+    ensures unread { (result.status.0 ≡ 5) ⊎ (result.status.0 ≡ 6) → source.new ≡ source.old }
+    ensures same { (result.status.0 ≡ 5) ⊎ (result.status.0 ≡ 6) → Stays (K.tables place keeper) (K.tables place result.keeper) }
+    ensures keeper_fault { result.status.0 ≡ 5 → Rose (K.faults keeper) (K.faults result.keeper) }
+    ensures refused { result.status.0 ≡ 6 → IsRefused (K.tables place keeper) (O.written sink.old) (O.written sink.new) (O.faults sink.old) (O.faults sink.new) }
+    ensures unopenable { result.status.0 ≡ 6 → IsUnopenable (K.tables place keeper) }
+    ensures read_fault { result.status.0 ≡ 3 → Rose (S.faults source.old) (S.faults source.new) }
+    ensures write_fault { result.status.0 ≡ 4 → Rose (O.faults sink.old) (O.faults sink.new) }
+    ensures memory { result.status.0 ≡ 9 → (source.new ≡ source.old) × (sink.new ≡ sink.old) }
+    ensures read_later { S.faults source.old ≤ S.faults source.new }
+    ensures write_later { O.faults sink.old ≤ O.faults sink.new }
+    ensures ended { (result.status.0 ≡ 0) ⊎ ((result.status.0 ≡ 3) ⊎ ((result.status.0 ≡ 4) ⊎ ((result.status.0 ≡ 5) ⊎ ((result.status.0 ≡ 6) ⊎ ((result.status.0 ≡ 9) ⊎ (result.status.0 ≡ 10)))))) }
+{
+    match open(alloc, &Layered, keeper, place, orphans, INPUT_LIMIT) {
+        Ok(opened) => {
+            let mut service = service_of(alloc, opened);
+            let end = kept_connection(alloc, &mut service, source, sink);
+            let store = service.into_desk().into_store();
+            Ran {
+                status: Status::from(end),
+                keeper: store.keeper,
+            }
+        }
+        Err((fault, keeper)) => {
+            let status = unopened(alloc, &fault, sink);
+            Ran { status, keeper }
+        }
+    }
+}

@@ -1,4 +1,0 @@
-use Rattle.cat_table.proofs.tree.Tree.+from_last.Given as goal
-
-abbrev pub decreases-from_last : goal.decreases-from_last
-decreases-from_last g l = l.count

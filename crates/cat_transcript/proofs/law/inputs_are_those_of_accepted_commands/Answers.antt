@@ -1,5 +1,0 @@
-use Rattle.cat_transcript.proofs.Fed.{lines_fold}
-use Rattle.cat_transcript.proofs.law.inputs_are_those_of_accepted_commands.Goals as goal
-
-pub returns : goal.returns
-returns c = record { inputs = λ rules settings m lines words. lines_fold rules settings m lines words }

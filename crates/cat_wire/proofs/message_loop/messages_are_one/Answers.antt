@@ -1,5 +1,0 @@
-use Rattle.cat_wire.proofs.Preceding.{one_list}
-use Rattle.cat_wire.proofs.message_loop.messages_are_one.Goals as goal
-
-pub returns : goal.returns
-returns c = one_list
