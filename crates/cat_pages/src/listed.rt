@@ -1,5 +1,6 @@
 //! The first documents of an order by the lists of terms: those at one value after the other, and then those without a
-//! value. So it looks at little more than the documents that it gives.
+//! value. Beside the documents that it gives it looks at those with the cursor's own value that stand before the cursor, and, where
+//! the documents with a value don't fill the page, at all without one.
 ghost use Rattle.std.specs.Prelude.{◌≡◌, ◌∷◌, ◌++◌, [], IfOk, IfSome, IsTrue, OnOk, Some, false, is_some, map, not, option_map, slice_get, take, true};
 ghost use Rattle.std.specs.FinMap.Entries.{is_sorted};
 ghost use Rattle.std.specs.List.{cons_option};

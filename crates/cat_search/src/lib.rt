@@ -2,8 +2,8 @@
 //!
 //! A document is seen as search rows, each a path through it with a value. A filter asks for rows:
 //! conditions with one key are alternatives, and each key must hold. Letters are compared in lower
-//! case, in ASCII alone. The rows stand in `specs/Rows.antt`, the reading of a filter and what it
-//! accepts in `specs/Filter.antt`.
+//! case, in ASCII alone. The rows stand in `specs/Rows.antt` of cat_state_parts, the reading of a filter and
+//! what it accepts in `specs/Filter.antt`.
 //!
 //! The index keeps documents by reference, and lists each reference under the terms of its document: the key of each row,
 //! and the key with the value, in lower case (`specs/Terms.antt`). So what a filter finds is a matter of unions and
