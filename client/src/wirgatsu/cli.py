@@ -163,17 +163,23 @@ def _server(arguments: argparse.Namespace):
     return Server(arguments.server, os.environ.get("WIRGATSU_TOKEN") or None)
 
 
-def _read(arguments: argparse.Namespace, provider: str, finder):
+def _reader(arguments: argparse.Namespace, provider: str, finder):
     from .finding import USUAL_NAMES
     from .reading import FileReader, Settings
-    from .terminal import Progress
+    from .shelf import ShelfReader
     patterns = tuple(arguments.glob) or USUAL_NAMES
     settings = Settings(provider, patterns, arguments.numbers_as_text, arguments.as_is, frozenset(arguments.skip_kind))
-    files = finder.roots(arguments.paths, patterns)
+    return ShelfReader(settings, finder) if getattr(arguments, "shelf", False) else FileReader(settings, finder)
+
+
+def _read(arguments: argparse.Namespace, reader) -> None:
+    from .terminal import Progress
+    patterns = reader.settings.patterns
+    files = reader.finder.roots(arguments.paths, patterns)
     if not files:
         raise ClientError(f"there is no {' or '.join(patterns)} below {', '.join(arguments.paths)}")
     with Progress("reading files", len(files)) as progress:
-        return FileReader(settings, finder).read(files, progress.at)
+        reader.read(files, progress.at)
 
 
 def _options(arguments: argparse.Namespace, provider: str, prune: bool):
@@ -193,12 +199,16 @@ def _print_reading(reading) -> None:
 def _push(arguments: argparse.Namespace) -> int:
     from .finding import Finder
     from .push import Push, default_provider
+    from .shelf import push_to_shelf
     finder = Finder(arguments.forge, arguments.branch)
     provider = arguments.provider or default_provider(arguments.paths, finder)
     options = _options(arguments, provider, arguments.prune)
-    reading = _read(arguments, provider, finder)
-    _print_reading(reading)
-    return Push(_server(arguments), reading, options).run()
+    reader = _reader(arguments, provider, finder)
+    _read(arguments, reader)
+    _print_reading(reader.reading)
+    if arguments.shelf:
+        return push_to_shelf(_server(arguments), reader, options)
+    return Push(_server(arguments), reader.reading, options).run()
 
 
 def _import(arguments: argparse.Namespace) -> int:
@@ -231,7 +241,9 @@ def _token(name: Optional[str]) -> Optional[str]:
 def _validate(arguments: argparse.Namespace) -> int:
     from .finding import Finder
     from .terminal import counted, say
-    reading = _read(arguments, "validate", Finder(arguments.forge, arguments.branch))
+    reader = _reader(arguments, "validate", Finder(arguments.forge, arguments.branch))
+    _read(arguments, reader)
+    reading = reader.reading
     _print_reading(reading)
     if not reading.is_whole:
         say(f"{counted(len(reading.problems), 'problem')} in {counted(reading.files, 'file')}.")

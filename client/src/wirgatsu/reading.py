@@ -108,12 +108,15 @@ class FileReader:
 
     def _read_file(self, file: File) -> None:
         try:
-            for document in read_documents(file.shown, file.path.read_bytes()):
+            for document in read_documents(file.shown, self._data(file)):
                 self._take(file, document)
         except OSError as error:
             self.reading.refuse(Place(file.shown), f"the file can't be read: {error.strerror}", None)
         except YamlError as error:
             self.reading.refuse(error.place, error.message, None)
+
+    def _data(self, file: File) -> bytes:
+        return file.path.read_bytes()
 
     def location_of(self, path: Path) -> str:
         """The location of a file: its page where the checkout has one, else its path."""

@@ -8,6 +8,8 @@ import yaml
 
 from .core_schema import STR, tag_of_plain
 
+# line breaks for readers of version 1.1 alone, so they are written by escapes
+_BREAKS_OF_1_1 = frozenset("\x85\u2028\u2029")
 _Base: Any = yaml.CSafeDumper if yaml.__with_libyaml__ else yaml.SafeDumper
 
 
@@ -21,6 +23,8 @@ class _Dumper(_Base):  # type: ignore[misc]
 def _text(dumper: Any, text: str) -> Any:
     if tag_of_plain(text) != STR:
         return dumper.represent_scalar(STR, text, style="'")
+    if not _BREAKS_OF_1_1.isdisjoint(text):
+        return dumper.represent_scalar(STR, text, style='"')
     if "\n" in text and all(character.isprintable() or character == "\n" for character in text):
         return dumper.represent_scalar(STR, text, style="|")
     return dumper.represent_scalar(STR, text)
