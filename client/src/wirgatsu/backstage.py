@@ -27,6 +27,12 @@ class Backstage:
         self.connection = Connection(whole if whole.endswith(API) else whole + API, token)
         self.address = self.connection.address
 
+    def __enter__(self) -> Backstage:
+        return self
+
+    def __exit__(self, *fault: object) -> None:
+        self.connection.close()
+
     def entities(self, count: Callable[[int], None] = lambda total: None) -> Iterator[Dict[str, Any]]:
         """All entities, page by page; `count` is told how many there are."""
         query = [("limit", str(PAGE))]

@@ -206,9 +206,8 @@ def _push(arguments: argparse.Namespace) -> int:
     reader = _reader(arguments, provider, finder)
     _read(arguments, reader)
     _print_reading(reader.reading)
-    if arguments.shelf:
-        return push_to_shelf(_server(arguments), reader, options)
-    return Push(_server(arguments), reader.reading, options).run()
+    with _server(arguments) as server:
+        return push_to_shelf(server, reader, options) if arguments.shelf else Push(server, reader.reading, options).run()
 
 
 def _import(arguments: argparse.Namespace) -> int:
@@ -223,11 +222,11 @@ def _import(arguments: argparse.Namespace) -> int:
             progress.total = total
             progress.at(done)
 
-        backstage = Backstage(arguments.url, token)
-        reading = read_backstage(backstage, provider, arguments.numbers_as_text, frozenset(arguments.skip_kind), step)
-        backstage.connection.close()
+        with Backstage(arguments.url, token) as backstage:
+            reading = read_backstage(backstage, provider, arguments.numbers_as_text, frozenset(arguments.skip_kind), step)
     _print_reading(reading)
-    return Push(_server(arguments), reading, options).run()
+    with _server(arguments) as server:
+        return Push(server, reading, options).run()
 
 
 def _token(name: Optional[str]) -> Optional[str]:
@@ -254,39 +253,47 @@ def _validate(arguments: argparse.Namespace) -> int:
 
 def _get(arguments: argparse.Namespace) -> int:
     from .show import get
-    return get(_server(arguments), arguments.reference, arguments.output)
+    with _server(arguments) as server:
+        return get(server, arguments.reference, arguments.output)
 
 
 def _list(arguments: argparse.Namespace) -> int:
     from .show import list_entities
-    return list_entities(_server(arguments), arguments.filter, arguments.output)
+    with _server(arguments) as server:
+        return list_entities(server, arguments.filter, arguments.output)
 
 
 def _tree(arguments: argparse.Namespace) -> int:
     from .show import tree
-    return tree(_server(arguments), arguments.reference)
+    with _server(arguments) as server:
+        return tree(server, arguments.reference)
 
 
 def _owners(arguments: argparse.Namespace) -> int:
     from .show import owners
-    return owners(_server(arguments), arguments.reference)
+    with _server(arguments) as server:
+        return owners(server, arguments.reference)
 
 
 def _owned(arguments: argparse.Namespace) -> int:
     from .show import owned
-    return owned(_server(arguments), arguments.reference, arguments.with_children, arguments.output)
+    with _server(arguments) as server:
+        return owned(server, arguments.reference, arguments.with_children, arguments.output)
 
 
 def _watch(arguments: argparse.Namespace) -> int:
     from .watching import watch
-    return watch(_server(arguments), arguments.filter, arguments.interval, arguments.count, arguments.output)
+    with _server(arguments) as server:
+        return watch(server, arguments.filter, arguments.interval, arguments.count, arguments.output)
 
 
 def _status(arguments: argparse.Namespace) -> int:
     from .status import status
-    return status(_server(arguments))
+    with _server(arguments) as server:
+        return status(server)
 
 
 def _export(arguments: argparse.Namespace) -> int:
     from .show import export
-    return export(_server(arguments), arguments.filter, arguments.file)
+    with _server(arguments) as server:
+        return export(server, arguments.filter, arguments.file)

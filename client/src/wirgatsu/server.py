@@ -80,10 +80,18 @@ class Connection:
             headers["Authorization"] = f"Bearer {self._token}"
         self._open.request(method, target, body, headers)
         answer = self._open.getresponse()
-        reply = Reply(answer.status, answer.read(), count)
+        reply = Reply(answer.status, _whole_body(answer), count)
         if answer.will_close:
             self.close()
         return reply
+
+
+def _whole_body(answer: http.client.HTTPResponse) -> bytes:
+    """The body. An answer that doesn't say where it ends is one whose head broke off, unless it ends with the connection."""
+    ends = answer.length is not None or answer.chunked or answer.version == 10 or answer.getheader("Connection", "").lower() == "close"
+    if not ends:
+        raise http.client.IncompleteRead(b"")
+    return answer.read()
 
 
 def _words(fault: Optional[Exception]) -> str:
@@ -100,6 +108,12 @@ class Server:
     def __init__(self, address: str, token: Optional[str] = None, patience: float = PATIENCE) -> None:
         self.connection = Connection(address, token, patience)
         self.address = self.connection.address
+
+    def __enter__(self) -> Server:
+        return self
+
+    def __exit__(self, *fault: object) -> None:
+        self.close()
 
     def close(self) -> None:
         """Ends the connection until the next request."""
