@@ -6,10 +6,10 @@ import argparse
 import os
 import signal
 import sys
-from typing import List, Optional, Sequence
+from typing import Any, Optional, Sequence
 
 from . import __version__
-from .errors import NO_SERVER, OK, REFUSED, WORDS, ClientError, WordsError
+from .errors import REFUSED, ClientError
 
 DEFAULT_SERVER = "http://127.0.0.1:8391"
 _STATUSES = """statuses:
@@ -23,7 +23,14 @@ def main(words: Optional[Sequence[str]] = None) -> int:
     """Runs a command, and gives the status to end with."""
     arguments = _parser().parse_args(words)
     try:
-        return arguments.run(arguments)
+        # only here, so that help needs nothing
+        from .commands import COMMANDS
+        return COMMANDS[arguments.command](arguments)
+    except ModuleNotFoundError as error:
+        if error.name != "yaml":
+            raise
+        print("wirgatsu: PyYAML is needed, which `pip install PyYAML` brings", file=sys.stderr)
+        return REFUSED
     except ClientError as error:
         print(f"wirgatsu: {error}", file=sys.stderr)
         return error.status
@@ -47,9 +54,8 @@ def _parser() -> argparse.ArgumentParser:
     return parser
 
 
-def _command(commands, name: str, run, text: str, server: bool = True) -> argparse.ArgumentParser:
+def _command(commands: Any, name: str, text: str, server: bool = True) -> argparse.ArgumentParser:
     command = commands.add_parser(name, help=text, description=text, epilog=_STATUSES, formatter_class=argparse.RawDescriptionHelpFormatter)
-    command.set_defaults(run=run)
     if server:
         command.add_argument("--server", metavar="URL", default=os.environ.get("WIRGATSU_SERVER", DEFAULT_SERVER),
                              help="the catalogue (default: WIRGATSU_SERVER, or %s); WIRGATSU_TOKEN has the token" % DEFAULT_SERVER)
@@ -87,8 +93,8 @@ def _add_filter(command: argparse.ArgumentParser) -> None:
                          help="KEY=VALUE conditions, parted by commas, as kind=component,spec.type=service (may come again: alternatives)")
 
 
-def _add_push(commands) -> None:
-    command = _command(commands, "push", _push, "Bring the catalog-info.yaml files below folders into the catalogue.")
+def _add_push(commands: Any) -> None:
+    command = _command(commands, "push", "Bring the catalog-info.yaml files below folders into the catalogue.")
     command.add_argument("paths", metavar="DIR", nargs="+", help="a folder or a file")
     command.add_argument("--prune", action="store_true", help="remove what the provider gave before and no file has any more")
     command.add_argument("--shelf", action="store_true", help="put the files as texts on the shelf, for the catalogue to process")
@@ -96,204 +102,63 @@ def _add_push(commands) -> None:
         add(command)
 
 
-def _add_import(commands) -> None:
-    command = _command(commands, "import", _import, "Bring the entities of a running Backstage into the catalogue.")
+def _add_import(commands: Any) -> None:
+    command = _command(commands, "import", "Bring the entities of a running Backstage into the catalogue.")
     command.add_argument("url", metavar="URL", help="the address of Backstage's backend, as https://backstage.example.com")
     command.add_argument("--token-env", metavar="NAME", help="the variable that has Backstage's token")
     for add in (_add_giving_options, _add_reading_options):
         add(command)
 
 
-def _add_validate(commands) -> None:
-    command = _command(commands, "validate", _validate, "Say what of these files the catalogue would refuse, with file, line and column.", server=False)
+def _add_validate(commands: Any) -> None:
+    command = _command(commands, "validate", "Say what of these files the catalogue would refuse, with file, line and column.", server=False)
     command.add_argument("paths", metavar="FILE", nargs="+", help="a file, or a folder with catalog-info.yaml files")
     for add in (_add_reading_options, _add_file_options):
         add(command)
 
 
-def _add_get(commands) -> None:
-    command = _command(commands, "get", _get, "Show one entity.")
+def _add_get(commands: Any) -> None:
+    command = _command(commands, "get", "Show one entity.")
     command.add_argument("reference", metavar="REF", help="as component:web, or web where nothing else has that name")
     _add_output(command)
 
 
-def _add_list(commands) -> None:
-    command = _command(commands, "list", _list, "Show all entities that a filter matches.")
+def _add_list(commands: Any) -> None:
+    command = _command(commands, "list", "Show all entities that a filter matches.")
     _add_filter(command)
     _add_output(command)
 
 
-def _add_tree(commands) -> None:
-    command = _command(commands, "tree", _tree, "Draw what a domain, a system or a group has.")
+def _add_tree(commands: Any) -> None:
+    command = _command(commands, "tree", "Draw what a domain, a system or a group has.")
     command.add_argument("reference", metavar="REF")
 
 
-def _add_owners(commands) -> None:
-    command = _command(commands, "owners", _owners, "Show who owns an entity.")
+def _add_owners(commands: Any) -> None:
+    command = _command(commands, "owners", "Show who owns an entity.")
     command.add_argument("reference", metavar="REF")
 
 
-def _add_owned(commands) -> None:
-    command = _command(commands, "owned", _owned, "Show what a group owns.")
+def _add_owned(commands: Any) -> None:
+    command = _command(commands, "owned", "Show what a group owns.")
     command.add_argument("reference", metavar="GROUP", help="as group:team-a, team-a, or user:ann")
     command.add_argument("--with-children", action="store_true", help="and what the groups below it own")
     _add_output(command)
 
 
-def _add_watch(commands) -> None:
-    command = _command(commands, "watch", _watch, "Show what changes, as it changes.")
+def _add_watch(commands: Any) -> None:
+    command = _command(commands, "watch", "Show what changes, as it changes.")
     _add_filter(command)
     command.add_argument("--interval", metavar="SECONDS", type=float, default=2.0, help="how often to ask (default: 2)")
     command.add_argument("--count", metavar="N", type=int, help="end after so many changes")
     command.add_argument("--output", "-o", choices=("table", "json"), default="table", help="lines for people, or a JSON object a line")
 
 
-def _add_status(commands) -> None:
-    _command(commands, "status", _status, "Show what failed, what is in conflict, and what nothing gives any more.")
+def _add_status(commands: Any) -> None:
+    _command(commands, "status", "Show what failed, what is in conflict, and what nothing gives any more.")
 
 
-def _add_export(commands) -> None:
-    command = _command(commands, "export", _export, "Write all entities as YAML that `push --as-is` takes back.")
+def _add_export(commands: Any) -> None:
+    command = _command(commands, "export", "Write all entities as YAML that `push --as-is` takes back.")
     _add_filter(command)
     command.add_argument("--file", "-f", metavar="FILE", help="where to (default: standard output)")
-
-
-def _server(arguments: argparse.Namespace):
-    from .server import Server
-    return Server(arguments.server, os.environ.get("WIRGATSU_TOKEN") or None)
-
-
-def _reader(arguments: argparse.Namespace, provider: str, finder):
-    from .finding import USUAL_NAMES
-    from .reading import FileReader, Settings
-    from .shelf import ShelfReader
-    patterns = tuple(arguments.glob) or USUAL_NAMES
-    settings = Settings(provider, patterns, arguments.numbers_as_text, arguments.as_is, frozenset(arguments.skip_kind))
-    return ShelfReader(settings, finder) if getattr(arguments, "shelf", False) else FileReader(settings, finder)
-
-
-def _read(arguments: argparse.Namespace, reader) -> None:
-    from .terminal import Progress
-    patterns = reader.settings.patterns
-    files = reader.finder.roots(arguments.paths, patterns)
-    if not files:
-        raise ClientError(f"there is no {' or '.join(patterns)} below {', '.join(arguments.paths)}")
-    with Progress("reading files", len(files)) as progress:
-        reader.read(files, progress.at)
-
-
-def _options(arguments: argparse.Namespace, provider: str, prune: bool):
-    from .names import is_name
-    from .push import Options
-    if not is_name(provider):
-        raise WordsError(f"'{provider}' is no name of a provider")
-    return Options(provider, prune, arguments.dry_run, arguments.yes, not arguments.no_wait, arguments.verbose, arguments.body_limit)
-
-
-def _print_reading(reading) -> None:
-    from .terminal import print_problems
-    print_problems(f"{warning.place}: warning: {warning.message}" for warning in reading.warnings)
-    print_problems(reading.problems)
-
-
-def _push(arguments: argparse.Namespace) -> int:
-    from .finding import Finder
-    from .push import Push, default_provider
-    from .shelf import push_to_shelf
-    finder = Finder(arguments.forge, arguments.branch)
-    provider = arguments.provider or default_provider(arguments.paths, finder)
-    options = _options(arguments, provider, arguments.prune)
-    reader = _reader(arguments, provider, finder)
-    _read(arguments, reader)
-    _print_reading(reader.reading)
-    with _server(arguments) as server:
-        return push_to_shelf(server, reader, options) if arguments.shelf else Push(server, reader.reading, options).run()
-
-
-def _import(arguments: argparse.Namespace) -> int:
-    from .backstage import Backstage, default_provider, read_backstage
-    from .push import Push
-    from .terminal import Progress
-    token = _token(arguments.token_env)
-    provider = arguments.provider or default_provider(arguments.url)
-    options = _options(arguments, provider, prune=True)
-    with Progress("reading Backstage") as progress:
-        def step(done: int, total: int) -> None:
-            progress.total = total
-            progress.at(done)
-
-        with Backstage(arguments.url, token) as backstage:
-            reading = read_backstage(backstage, provider, arguments.numbers_as_text, frozenset(arguments.skip_kind), step)
-    _print_reading(reading)
-    with _server(arguments) as server:
-        return Push(server, reading, options).run()
-
-
-def _token(name: Optional[str]) -> Optional[str]:
-    if name is None:
-        return None
-    if not os.environ.get(name):
-        raise WordsError(f"the variable {name} has no token")
-    return os.environ[name]
-
-
-def _validate(arguments: argparse.Namespace) -> int:
-    from .finding import Finder
-    from .terminal import counted, say
-    reader = _reader(arguments, "validate", Finder(arguments.forge, arguments.branch))
-    _read(arguments, reader)
-    reading = reader.reading
-    _print_reading(reading)
-    if not reading.is_whole:
-        say(f"{counted(len(reading.problems), 'problem')} in {counted(reading.files, 'file')}.")
-        return REFUSED
-    print(f"{counted(len(reading.entities), 'entity', 'entities')} in {counted(reading.files, 'file')} can be brought in.")
-    return OK
-
-
-def _get(arguments: argparse.Namespace) -> int:
-    from .show import get
-    with _server(arguments) as server:
-        return get(server, arguments.reference, arguments.output)
-
-
-def _list(arguments: argparse.Namespace) -> int:
-    from .show import list_entities
-    with _server(arguments) as server:
-        return list_entities(server, arguments.filter, arguments.output)
-
-
-def _tree(arguments: argparse.Namespace) -> int:
-    from .show import tree
-    with _server(arguments) as server:
-        return tree(server, arguments.reference)
-
-
-def _owners(arguments: argparse.Namespace) -> int:
-    from .show import owners
-    with _server(arguments) as server:
-        return owners(server, arguments.reference)
-
-
-def _owned(arguments: argparse.Namespace) -> int:
-    from .show import owned
-    with _server(arguments) as server:
-        return owned(server, arguments.reference, arguments.with_children, arguments.output)
-
-
-def _watch(arguments: argparse.Namespace) -> int:
-    from .watching import watch
-    with _server(arguments) as server:
-        return watch(server, arguments.filter, arguments.interval, arguments.count, arguments.output)
-
-
-def _status(arguments: argparse.Namespace) -> int:
-    from .status import status
-    with _server(arguments) as server:
-        return status(server)
-
-
-def _export(arguments: argparse.Namespace) -> int:
-    from .show import export
-    with _server(arguments) as server:
-        return export(server, arguments.filter, arguments.file)

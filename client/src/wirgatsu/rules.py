@@ -224,28 +224,41 @@ def target_breaches(descriptor: Dict[str, Any]) -> List[Breach]:
     return found + ([Breach(("spec", "targets"), "spec.targets has over 1,000 targets")] if len(targets) > MOST_TARGETS else [])
 
 
-def unholdable(value: Any, path: Path = (), level: int = 1) -> List[Breach]:
+def unholdable(descriptor: Any) -> List[Breach]:
     """The parts of a descriptor that the catalogue's JSON can't hold."""
-    if isinstance(value, (dict, list)) and level > MOST_LEVELS:
-        return [Breach(path, "the descriptor is over 100 levels deep")]
-    if isinstance(value, dict):
-        return [breach for key, member in value.items() for breach in _member(key, member, path, level)]
-    if isinstance(value, list):
-        return [breach for position, member in enumerate(value) for breach in unholdable(member, path + (position,), level + 1)]
-    if isinstance(value, Fraction):
-        return [Breach(path, f"{dotted(path)} is {value.text}, and the catalogue holds no fractions (quote it, or give --numbers-as-text)")]
-    if isinstance(value, int) and not LEAST_NUMBER <= value <= MOST_NUMBER:
-        return [Breach(path, f"{dotted(path)} is a number beyond 64 bits")]
-    return [Breach(path, f"{dotted(path)} has half a surrogate pair")] if isinstance(value, str) and not _is_utf8(value) else []
+    found: List[Breach] = []
+    _test_part(descriptor, (), 1, found)
+    return found
 
 
-def _member(key: str, member: Any, path: Path, level: int) -> List[Breach]:
-    below = path + (key,)
-    found = [] if _is_utf8(key) else [Breach(path, f"{dotted(path)} has a key with half a surrogate pair")]
-    return found + unholdable(member, below, level + 1)
+def _test_part(value: Any, path: Path, level: int, found: List[Breach]) -> None:
+    if isinstance(value, str):
+        if not _is_utf8(value):
+            found.append(Breach(path, f"{dotted(path)} has half a surrogate pair"))
+    elif isinstance(value, (dict, list)):
+        _test_parts(value, path, level, found)
+    elif isinstance(value, Fraction):
+        found.append(Breach(path, f"{dotted(path)} is {value.text}, and the catalogue holds no fractions (quote it, or give --numbers-as-text)"))
+    elif isinstance(value, int) and not LEAST_NUMBER <= value <= MOST_NUMBER:
+        found.append(Breach(path, f"{dotted(path)} is a number beyond 64 bits"))
+
+
+def _test_parts(value: Any, path: Path, level: int, found: List[Breach]) -> None:
+    if level > MOST_LEVELS:
+        found.append(Breach(path, "the descriptor is over 100 levels deep"))
+    elif isinstance(value, list):
+        for position, member in enumerate(value):
+            _test_part(member, path + (position,), level + 1, found)
+    else:
+        for key, member in value.items():
+            if not _is_utf8(key):
+                found.append(Breach(path, f"{dotted(path)} has a key with half a surrogate pair"))
+            _test_part(member, path + (key,), level + 1, found)
 
 
 def _is_utf8(text: str) -> bool:
+    if text.isascii():
+        return True
     try:
         text.encode("utf-8")
     except UnicodeEncodeError:
