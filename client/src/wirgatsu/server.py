@@ -228,7 +228,7 @@ def _sentence(address: str, code: int, rule: str) -> str:
     if rule.startswith("too_large "):
         return f"the catalogue would hold {int(rule.split()[1]):,} bytes of input, which is more than it takes (413)"
     known = {
-        413: "the body of the request is larger than the server takes; give --body-limit",
+        413: "the body of the request is larger than the server takes; give a smaller --body-limit",
         503: "the server couldn't keep the change on its disk",
         507: "the server lacks memory for this",
     }
