@@ -77,17 +77,17 @@ def plan_of(server: Server, wanted: Wanted) -> Plan:
     """Compares what the provider's documents are with what they are to be."""
     plan, present, extra = Plan(), set(), set()
     with Progress("reading what the catalogue has") as progress:
-        for position, document in enumerate(_documents_of(server, wanted.provider, progress)):
+        for done, document in enumerate(_documents_of(server, wanted.provider, progress), 1):
             reference = str(reference_of(document))
             present.add(reference)
             if reference in wanted.entities:
                 _compare(plan, wanted.entities[reference], document)
             else:
                 extra.add(reference)
-            progress.at(position)
+            progress.at(done)
     for reference, entity in wanted.entities.items():
         if reference not in present:
-            plan.changes.append(Change("+", reference, str(entity.place)))
+            plan.changes.append(Change("+", reference, "" if entity.place.line is None else str(entity.place)))
     _remove(plan, server, wanted, present, extra)
     return plan
 
