@@ -2,6 +2,7 @@
 
 from __future__ import annotations
 
+import contextlib
 import io
 import json
 import threading
@@ -13,10 +14,10 @@ import yaml
 
 from .support import COMPONENT_YAML, Served, component, descriptor, group, run
 
-from wirgatsu.errors import RefusedError
+from wirgatsu.errors import NoServerError, RefusedError
 from wirgatsu.filters import conditions_of, matches
 from wirgatsu.terminal import Progress, coloured, table
-from wirgatsu.watching import Copy
+from wirgatsu.watching import Copy, watch
 
 
 class Showing(Served):
@@ -105,6 +106,17 @@ class Healing(unittest.TestCase):
         self.assertEqual([(event.mark, event.reference) for event in copy.follow(server)], [("~", "b"), ("+", "c"), ("-", "a")])
         self.assertEqual([(event.mark, event.reference) for event in copy.follow(server)], [("-", "b")])
         self.assertEqual([call.args for call in server.changes.call_args_list], [(None,), ("1.1",), (None,), ("2.5",)])
+
+
+    def test_server_that_goes_and_comes(self) -> None:
+        answers = [{"from": None, "to": "1.0", "changes": []}, NoServerError("no server"), NoServerError("no server"), RefusedError("", 410, "gone 2.0"),
+                   {"from": None, "to": "2.0", "changes": [{"entityRef": "a", "set": component("a")}]}]
+        server = mock.Mock(changes=mock.Mock(side_effect=answers))
+        out, err = io.StringIO(), io.StringIO()
+        with mock.patch("time.sleep"), contextlib.redirect_stdout(out), contextlib.redirect_stderr(err):
+            self.assertEqual(watch(server, [], 1.0, 1, "json"), 0)
+        self.assertEqual(json.loads(out.getvalue())["change"], "added")
+        self.assertEqual(err.getvalue().splitlines()[1:], ["no server; waiting for it."])
 
 
 class Filters(unittest.TestCase):

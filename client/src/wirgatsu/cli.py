@@ -3,6 +3,7 @@
 from __future__ import annotations
 
 import argparse
+import io
 import os
 import signal
 import sys
@@ -22,6 +23,9 @@ _STATUSES = """statuses:
 def main(words: Optional[Sequence[str]] = None) -> int:
     """Runs a command, and gives the status to end with."""
     arguments = _parser().parse_args(words)
+    if isinstance(sys.stdout, io.TextIOWrapper):
+        # a terminal without Unicode gets marks for what it lacks
+        sys.stdout.reconfigure(errors="replace")
     try:
         # only here, so that help needs nothing
         from .commands import COMMANDS
@@ -37,6 +41,9 @@ def main(words: Optional[Sequence[str]] = None) -> int:
     except BrokenPipeError:
         # who read the output went away; nothing more can be written, not at the exit either
         os.dup2(os.open(os.devnull, os.O_WRONLY), sys.stdout.fileno())
+        return REFUSED
+    except OSError as error:
+        print(f"wirgatsu: {error.filename or 'this machine'}: {error.strerror}", file=sys.stderr)
         return REFUSED
     except KeyboardInterrupt:
         print("", file=sys.stderr)

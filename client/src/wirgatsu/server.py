@@ -57,6 +57,8 @@ class Connection:
         target = self._prefix + path + ("?" + urlencode(query, safe=":/,=", quote_via=quote) if query else "")
         fault: Optional[Exception] = None
         for count in range(1, TRIES + 1):
+            if fault is not None:
+                time.sleep(0.05 * 3 ** (count - 2))
             try:
                 return self._once(method, target, body, kind, count)
             except ssl.SSLError as error:
@@ -66,7 +68,6 @@ class Connection:
                 fault = error
                 if isinstance(error, (ConnectionRefusedError, socket.gaierror, socket.timeout)):
                     break
-                time.sleep(0.05 * 3 ** (count - 1))
         raise NoServerError(f"no server answers at {self.address}: {_words(fault)}")
 
     def _once(self, method: str, target: str, body: Optional[bytes], kind: str, count: int) -> Reply:

@@ -8,7 +8,7 @@ from dataclasses import dataclass
 from typing import Any, Dict, Iterator, List, Optional, Sequence, Tuple
 
 from .entities import changed_paths
-from .errors import OK, RefusedError
+from .errors import OK, NoServerError, RefusedError
 from .filters import Conditions, conditions_of, matches
 from .server import Server
 from .terminal import coloured, counted, joined, say
@@ -75,11 +75,19 @@ def watch(server: Server, filters: List[str], interval: float, count: Optional[i
     copy = Copy([conditions_of(text) for text in filters])
     copy.follow(server)
     say(f"Watching {counted(len(copy.documents), 'entity', 'entities')}; Ctrl-C ends it.")
-    shown = 0
+    shown, away = 0, False
     while count is None or shown < count:
         server.close()
         time.sleep(interval)
-        for event in copy.follow(server):
+        try:
+            events = copy.follow(server)
+        except NoServerError as error:
+            if not away:
+                say(f"{error}; waiting for it.")
+            away = True
+            continue
+        away = False
+        for event in events:
             print(_line(event, output), flush=True)
             shown += 1
     return OK
