@@ -18,6 +18,8 @@ ORPHAN = "backstage.io/orphan"
 # Which provider of this client gave the entity. By it a later push knows what is its own.
 PROVIDER = "wirgatsu/provider"
 
+_COMPACT = json.JSONEncoder(ensure_ascii=False, sort_keys=True, separators=(",", ":"))
+
 
 @dataclass(frozen=True)
 class Entity:
@@ -30,7 +32,7 @@ class Entity:
 
 def compact(value: Any) -> bytes:
     """Compact JSON with keys in order, by which descriptors are compared and sent."""
-    return json.dumps(value, ensure_ascii=False, sort_keys=True, separators=(",", ":")).encode("utf-8")
+    return _COMPACT.encode(value).encode("utf-8")
 
 
 def annotations_of(descriptor: Dict[str, Any]) -> Dict[str, Any]:

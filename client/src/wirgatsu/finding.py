@@ -44,13 +44,16 @@ def _pattern(text: str) -> "re.Pattern[str]":
 def files_below(folder: str, patterns: Sequence[str], bound: Path) -> Iterator[File]:
     """The files below a folder that a pattern matches, in order of their paths."""
     wanted = [_pattern(pattern) for pattern in patterns]
-    for place, folders, names in os.walk(folder):
+    top, real_top = os.path.join(folder, ""), os.path.realpath(folder)
+    for place, folders, names in os.walk(top):
         folders[:] = sorted(name for name in folders if name not in _PASSED_OVER)
         for name in sorted(names):
             shown = os.path.join(place, name)
-            inside = Path(os.path.relpath(shown, folder)).as_posix()
-            if any(pattern.fullmatch(inside) for pattern in wanted):
-                yield File(Path(os.path.realpath(shown)), os.path.normpath(shown), bound)
+            inside = shown[len(top):]
+            if any(pattern.fullmatch(inside.replace(os.sep, "/")) for pattern in wanted):
+                # no folder on the way is a link, so only the file itself can be one
+                real = os.path.realpath(shown) if os.path.islink(shown) else os.path.join(real_top, inside)
+                yield File(Path(real), os.path.normpath(shown), bound)
 
 
 class Finder:

@@ -4,6 +4,7 @@ from __future__ import annotations
 
 import re
 from dataclasses import dataclass
+from functools import lru_cache
 from typing import Optional
 
 _KIND = re.compile(r"[A-Za-z][A-Za-z0-9]{0,62}")
@@ -11,6 +12,8 @@ _NAME = re.compile(r"[A-Za-z0-9](?:[A-Za-z0-9._-]{0,61}[A-Za-z0-9])?")
 _NAMESPACE = re.compile(r"[A-Za-z0-9](?:[A-Za-z0-9-]{0,61}[A-Za-z0-9])?")
 _TAG = re.compile(r"[a-z0-9:+#]+(?:-[a-z0-9:+#]+)*")
 _LOCATION_TYPE = re.compile(r"[A-Za-z0-9_-]{1,63}")
+
+_REFERENCE = re.compile(r"(?:([^:/]+):)?(?:([^:/]+)/)?([^:/]+)")
 
 NAME_FORM = "1 to 63 letters, digits, '-', '_' and '.', the first and the last a letter or digit"
 NAMESPACE_FORM = "1 to 63 letters, digits and '-', the first and the last a letter or digit"
@@ -75,6 +78,7 @@ class Reference:
         return f"{self.kind}:{self.namespace}/{self.name}"
 
     @classmethod
+    @lru_cache(maxsize=4096)
     def of(cls, kind: str, namespace: str, name: str) -> Reference:
         """The reference of these parts, if each has its form."""
         if not is_kind(kind):
@@ -88,7 +92,7 @@ class Reference:
     @classmethod
     def parse(cls, text: str, kind: Optional[str] = None, namespace: str = "default") -> Reference:
         """Reads `[kind:][namespace/]name`, with these where the text has none."""
-        match = re.fullmatch(r"(?:([^:/]+):)?(?:([^:/]+)/)?([^:/]+)", text)
+        match = _REFERENCE.fullmatch(text)
         if match is None:
             raise ReferenceFault("it must be written [kind:][namespace/]name")
         if not (match[1] or kind):

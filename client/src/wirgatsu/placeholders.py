@@ -8,9 +8,7 @@ from typing import Any, Callable, List, Optional, Tuple
 
 from .core_schema import Fraction
 from .places import Breach, Path as Steps, dotted
-from .yaml_reader import YamlError, read_documents
-
-KEYS = ("$text", "$json", "$yaml")
+from .yaml_reader import PLACEHOLDERS, YamlError, read_documents
 
 
 class PlaceholderFault(ValueError):
@@ -21,7 +19,7 @@ def placeholder_of(value: Any) -> Optional[Tuple[str, Any]]:
     """The key and the target of a placeholder, which is a map with that key alone."""
     if isinstance(value, dict) and len(value) == 1:
         key, target = next(iter(value.items()))
-        if key in KEYS:
+        if key in PLACEHOLDERS:
             return key, target
     return None
 

@@ -140,7 +140,10 @@ class FileReader:
             self._bring_in(file, document, descriptor)
 
     def _descriptor(self, file: File, document: Document) -> Tuple[Any, List[Breach]]:
-        descriptor, breaches = resolved(document.value, lambda target: self._placeholder_file(file, target))
+        descriptor: Any = document.value
+        breaches: List[Breach] = []
+        if document.has_placeholders:
+            descriptor, breaches = resolved(document.value, lambda target: self._placeholder_file(file, target))
         if self.settings.numbers_as_text:
             descriptor = rules.numbers_as_texts(descriptor)
         return descriptor, breaches or ([] if document.faults else profile_breaches(descriptor))

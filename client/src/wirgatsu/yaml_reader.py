@@ -20,8 +20,13 @@ from yaml.scanner import Scanner
 from .core_schema import MAP, SEQ, STR, tag_of_plain, value_of
 from .places import Path, Place
 
+# keys that, alone in a map, stand for what another file has
+PLACEHOLDERS = frozenset(("$text", "$json", "$yaml"))
 MOST_LEVELS = 127
 MOST_PARTS = 1_000_000
+
+_DEEP_INDENT = " " * 500
+_OPENINGS = ("[", "{", "- ", "? ", "-\t")
 
 # YAML 1.2 has these as characters of a text, YAML 1.1 as line breaks. They stand in for each other while PyYAML reads.
 _BREAKS_OF_1_1 = {0x85: 0xF0085, 0x2028: 0xF2028, 0x2029: 0xF2029}
@@ -80,6 +85,7 @@ class Document:
     node: Node
     faults: List[Tuple[Place, str]] = field(default_factory=list)
     warnings: List[Tuple[Place, str]] = field(default_factory=list)
+    has_placeholders: bool = False
 
     def place(self, path: Path) -> Place:
         """Where the part stands; for one that isn't there, the key of the map or list that lacks it."""
@@ -141,8 +147,7 @@ def read_documents(source: str, data: bytes) -> Iterator[Document]:
 
 def _may_be_deep(text: str) -> bool:
     """The text could be nested so deeply that composing it would end the program. Few texts could."""
-    deepest_indent = max((len(line) - len(line.lstrip(" ")) for line in text.split("\n")), default=0)
-    return deepest_indent + sum(text.count(opening) for opening in ("[", "{", "- ", "? ", "-\t")) > 1000
+    return _DEEP_INDENT in text or sum(map(text.count, _OPENINGS)) > 1000
 
 
 def _refuse_depth(source: str, text: str) -> None:
@@ -180,7 +185,7 @@ def _decoded(source: str, data: bytes) -> Tuple[str, bool]:
 def _document(source: str, node: Node, swapped: bool) -> Document:
     builder = _Builder(source, swapped)
     value = builder.value(node, 1)
-    return Document(source, value, node, builder.faults, builder.warnings)
+    return Document(source, value, node, builder.faults, builder.warnings, builder.has_placeholders)
 
 
 class _Builder:
@@ -191,6 +196,7 @@ class _Builder:
         self.swapped = swapped
         self.faults: List[Tuple[Place, str]] = []
         self.warnings: List[Tuple[Place, str]] = []
+        self.has_placeholders = False
         self._open: Set[int] = set()
         self._parts = 0
 
@@ -241,6 +247,7 @@ class _Builder:
                 self._fault(key_node, f"the key '{key}' stands twice in one map")
             if key == "<<" and not key_node.style:
                 self.warnings.append((_place(self.source, key_node.start_mark), "'<<' is a key like any other in YAML 1.2, so nothing is merged"))
+            self.has_placeholders = self.has_placeholders or key in PLACEHOLDERS
             made[key] = self.value(value_node, level + 1)
         return made
 
