@@ -134,6 +134,15 @@ class Pushing(Served):
         self.assertEqual(self.push("--prune")[0], 0)
         self.assertEqual(self.catalogue.ask("GET", "/failed"), [])
 
+    def test_what_others_gave_and_failed_is_not_removed(self) -> None:
+        self.catalogue.ask("POST", "/providers/other/full", {"serial": 1, "entities": [{"entity": component("o")}]})
+        self.catalogue.ask("POST", "/settle")
+        self.catalogue.ask("POST", "/providers/other/full", {"serial": 2, "entities": [{"entity": component("o", dependsOn=["x"])}]})
+        self.write("catalog-info.yaml", COMPONENT_YAML.format(name="a"))
+        self.push("--prune")
+        self.assertIn("0 to add, 0 to change, 0 to remove, 1 as they are.", self.push("--prune")[1])
+        self.assertEqual(len(self.catalogue.ask("GET", "/failed")), 1)
+
     def test_parts(self) -> None:
         for number in range(30):
             self.write(f"{number}/catalog-info.yaml", COMPONENT_YAML.format(name=f"c{number}"))

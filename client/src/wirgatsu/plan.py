@@ -118,5 +118,6 @@ def _remove(plan: Plan, server: Server, wanted: Wanted, present: Set[str], extra
         plan.left = sorted(extra)
         return
     plan.changes += [Change("-", reference) for reference in sorted(extra)]
-    failed = {found["entityRef"] for found in server.failed()}
-    plan.hidden = sorted(failed - present - extra - set(wanted.entities) - wanted.protected)
+    failed = sorted({found["entityRef"] for found in server.failed()} - present - extra - set(wanted.entities) - wanted.protected)
+    # one that has a document shows by its mark whose it is
+    plan.hidden = [reference for reference, document in zip(failed, server.documents_of(failed)) if document is None]
