@@ -9,6 +9,7 @@ from typing import Callable, Dict, Optional
 from . import push, show
 from .backstage import Backstage, default_provider, read_backstage
 from .errors import OK, REFUSED, ClientError, WordsError
+from .export import export
 from .finding import USUAL_NAMES, Finder
 from .names import is_name
 from .push import Options, Push
@@ -51,6 +52,7 @@ def _print_reading(reading: Reading) -> None:
 
 
 def push_command(arguments: argparse.Namespace) -> int:
+    """Brings files into the catalogue."""
     finder = Finder(arguments.forge, arguments.branch)
     provider = arguments.provider or push.default_provider(arguments.paths, finder)
     options = _options(arguments, provider, arguments.prune)
@@ -62,6 +64,7 @@ def push_command(arguments: argparse.Namespace) -> int:
 
 
 def import_command(arguments: argparse.Namespace) -> int:
+    """Brings the entities of a Backstage into the catalogue."""
     token = _token(arguments.token_env)
     provider = arguments.provider or default_provider(arguments.url)
     options = _options(arguments, provider, prune=True)
@@ -86,6 +89,7 @@ def _token(name: Optional[str]) -> Optional[str]:
 
 
 def validate_command(arguments: argparse.Namespace) -> int:
+    """Says what the catalogue would refuse of files."""
     reader = _reader(arguments, "validate", Finder(arguments.forge, arguments.branch))
     _read(arguments, reader)
     reading = reader.reading
@@ -98,43 +102,51 @@ def validate_command(arguments: argparse.Namespace) -> int:
 
 
 def get_command(arguments: argparse.Namespace) -> int:
+    """Shows one entity."""
     with _server(arguments) as server:
         return show.get(server, arguments.reference, arguments.output)
 
 
 def list_command(arguments: argparse.Namespace) -> int:
+    """Shows all entities that a filter matches."""
     with _server(arguments) as server:
         return show.list_entities(server, arguments.filter, arguments.output)
 
 
 def tree_command(arguments: argparse.Namespace) -> int:
+    """Draws what an entity has."""
     with _server(arguments) as server:
         return show.tree(server, arguments.reference)
 
 
 def owners_command(arguments: argparse.Namespace) -> int:
+    """Shows who owns an entity."""
     with _server(arguments) as server:
         return show.owners(server, arguments.reference)
 
 
 def owned_command(arguments: argparse.Namespace) -> int:
+    """Shows what a group or a user owns."""
     with _server(arguments) as server:
         return show.owned(server, arguments.reference, arguments.with_children, arguments.output)
 
 
 def watch_command(arguments: argparse.Namespace) -> int:
+    """Shows what changes."""
     with _server(arguments) as server:
         return watch(server, arguments.filter, arguments.interval, arguments.count, arguments.output)
 
 
 def status_command(arguments: argparse.Namespace) -> int:
+    """Shows what is wrong."""
     with _server(arguments) as server:
         return status(server)
 
 
 def export_command(arguments: argparse.Namespace) -> int:
+    """Writes all entities as YAML."""
     with _server(arguments) as server:
-        return show.export(server, arguments.filter, arguments.file)
+        return export(server, arguments.filter, arguments.file)
 
 
 COMMANDS: Dict[str, Callable[[argparse.Namespace], int]] = {

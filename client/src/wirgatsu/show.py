@@ -5,11 +5,11 @@ from __future__ import annotations
 import json
 from typing import Any, Dict, Iterable, Iterator, List, Optional, Set, Tuple
 
-from .entities import reference_of, without_made, without_mark
+from .entities import reference_of
 from .errors import OK, ClientError, WordsError
 from .names import Reference, ReferenceFault
 from .server import Pairs, Server
-from .terminal import Progress, coloured, counted, table
+from .terminal import coloured, counted, table
 from .yaml_writer import in_usual_order, written, written_documents
 
 OUTPUTS = ("table", "yaml", "json", "name")
@@ -216,25 +216,3 @@ def owned(server: Server, text: str, with_children: bool, output: str) -> int:
         level = [document for document in server.documents_of(below) if document is not None]
     condition = ",".join(f"relations.ownedBy={group}" for group in groups)
     return list_entities(server, [condition], output)
-
-
-def export(server: Server, filters: List[str], path: Optional[str]) -> int:
-    """Writes all entities as YAML that `push --as-is` takes back."""
-    with Progress("exporting") as progress:
-        def count(total: int) -> None:
-            progress.total = total
-
-        documents = server.documents([("filter", text) for text in filters], count)
-        descriptors = (in_usual_order(without_mark(without_made(document))) for document in documents)
-        stream = open(path, "w", encoding="utf-8") if path else None
-        done = 0
-        try:
-            for done, text in enumerate(written_documents(descriptors), 1):
-                print(text, end="", file=stream)
-                progress.at(done)
-        finally:
-            if stream:
-                stream.close()
-    if path:
-        print(f"{counted(done, 'entity', 'entities')} in {path}.")
-    return OK
