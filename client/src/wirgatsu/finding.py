@@ -62,24 +62,24 @@ class Finder:
     def __init__(self, forge: Optional[str] = None, branch: Optional[str] = None) -> None:
         self._forge = forge
         self._branch = branch
-        self._tops: Dict[Path, Optional[Path]] = {}
-        self._checkouts: Dict[Path, Optional[Checkout]] = {}
+        self._tops: Dict[str, Optional[str]] = {}
+        self._checkouts: Dict[str, Optional[Checkout]] = {}
 
     def checkout(self, folder: Path) -> Optional[Checkout]:
         """The checkout that the folder is in."""
-        top = self._top(folder)
+        top = self._top(str(folder))
         if top is None:
             return None
         if top not in self._checkouts:
-            self._checkouts[top] = checkout_of(top, self._forge, self._branch)
+            self._checkouts[top] = checkout_of(Path(top), self._forge, self._branch)
         return self._checkouts[top]
 
-    def _top(self, folder: Path) -> Optional[Path]:
+    def _top(self, folder: str) -> Optional[str]:
+        """The nearest folder upwards that git keeps."""
         if folder not in self._tops:
-            if (folder / ".git").exists():
-                self._tops[folder] = folder
-            else:
-                self._tops[folder] = self._top(folder.parent) if folder.parent != folder else None
+            above = os.path.dirname(folder)
+            here = os.path.exists(os.path.join(folder, ".git"))
+            self._tops[folder] = folder if here else self._top(above) if above != folder else None
         return self._tops[folder]
 
     def roots(self, paths: Sequence[str], patterns: Sequence[str]) -> List[File]:

@@ -90,6 +90,7 @@ class FileReader:
         self.reading = Reading()
         self._queue: Deque[File] = deque()
         self._seen: Set[Path] = set()
+        self._last: Tuple[Optional[Path], Dict[str, str]] = (None, {})
 
     def read(self, files: Iterable[File], step: Callable[[int], None] = lambda done: None) -> Reading:
         """Reads the files; `step` is told after each how many were read."""
@@ -120,9 +121,19 @@ class FileReader:
 
     def location_of(self, path: Path) -> str:
         """The location of a file: its page where the checkout has one, else its path."""
-        checkout = self.finder.checkout(path.parent)
-        address = checkout.file_address(path) if checkout else None
-        return f"url:{address}" if address else f"file:{path.as_posix()}"
+        return self._whereabouts(path)[MANAGED_BY]
+
+    def _whereabouts(self, path: Path) -> Dict[str, str]:
+        """The annotations that say where a file is; those of the last file are remembered."""
+        if self._last[0] != path:
+            checkout = self.finder.checkout(path.parent)
+            page = checkout.file_address(path) if checkout else None
+            found = {MANAGED_BY: f"url:{page}" if page else f"file:{path.as_posix()}"}
+            folder, edit = (checkout.folder_address(path), checkout.edit_address(path)) if checkout else (None, None)
+            found.update({SOURCE: f"url:{folder}"} if folder else {})
+            found.update({EDIT: edit} if edit else {})
+            self._last = (path, found)
+        return self._last[1]
 
     def _take(self, file: File, document: Document) -> None:
         self.reading.warnings += [Problem(place, message) for place, message in document.warnings]
@@ -177,14 +188,9 @@ class FileReader:
         own = annotations_of(descriptor)
         if MANAGED_BY in own:
             return descriptor
-        location = self.location_of(file.path)
-        made = {MANAGED_BY: location, ORIGIN: file.origin or location}
-        checkout = self.finder.checkout(file.path.parent)
-        if checkout:
-            folder, page = checkout.folder_address(file.path), checkout.edit_address(file.path)
-            made.update({SOURCE: f"url:{folder}"} if folder else {})
-            made.update({EDIT: page} if page else {})
-        return {**descriptor, "metadata": {**descriptor["metadata"], "annotations": {**made, **own}}}
+        where = self._whereabouts(file.path)
+        made = {**where, ORIGIN: file.origin or where[MANAGED_BY], **own}
+        return {**descriptor, "metadata": {**descriptor["metadata"], "annotations": made}}
 
     def _followed(self, file: File, document: Document, descriptor: Dict[str, Any]) -> Dict[str, Any]:
         """Reads what a Location names, and gives the Location as one of which nothing is left to read."""
