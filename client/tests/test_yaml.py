@@ -42,6 +42,11 @@ class CoreSchema(unittest.TestCase):
                     read = values(f"a: {text}\n")[0]["a"]
                     self.assertEqual((type(read), read), (type(value), value))
 
+    def test_long_numbers(self) -> None:
+        self.assertEqual(values("a: " + "0" * 9000 + "7\n"), [{"a": 7}])
+        self.assertGreater(values("a: " + "9" * 9000 + "\n")[0]["a"], 2**64)
+        self.assertLess(values("a: -" + "9" * 9000 + "\n")[0]["a"], -(2**63))
+
     def test_keys_are_texts(self) -> None:
         self.assertEqual(values("1: a\nnull: b\n1.5: c\ntrue: d\n'': e\n"), [{"1": "a", "null": "b", "1.5": "c", "true": "d", "": "e"}])
 

@@ -14,6 +14,8 @@ _TRUE = frozenset(("true", "True", "TRUE"))
 _FALSE = frozenset(("false", "False", "FALSE"))
 _INT = re.compile(r"[-+]?[0-9]+|0o[0-7]+|0x[0-9a-fA-F]+")
 _FLOAT = re.compile(r"[-+]?(?:\.[0-9]+|[0-9]+(?:\.[0-9]*)?)(?:[eE][-+]?[0-9]+)?|[-+]?\.(?:inf|Inf|INF)|\.(?:nan|NaN|NAN)")
+# a number of so many digits is beyond 64 bits, whatever follows
+_ENOUGH_DIGITS = 40
 _FIRST_OF_NUMBER = frozenset("-+.0123456789")
 
 
@@ -55,4 +57,5 @@ def _integer(text: str) -> int:
         return int(text[2:], 8)
     if text.startswith("0x"):
         return int(text[2:], 16)
-    return int(text[:5000])
+    digits = text.lstrip("+-").lstrip("0")[:_ENOUGH_DIGITS] or "0"
+    return -int(digits) if text.startswith("-") else int(digits)
