@@ -76,7 +76,7 @@ class Folder(unittest.TestCase):
         finder = Finder()
         reader = FileReader(Settings(**settings), finder)
         paths = [str(self.folder / name) for name in names] or [str(self.folder)]
-        return reader.read(finder.roots(paths, settings.get("patterns", USUAL_NAMES)))
+        return reader.read(finder.roots(paths, settings.get("patterns", USUAL_NAMES), settings.get("excluded", ())))
 
     def read_text(self, text: "str | bytes", **settings: Any) -> Any:
         """Reads one file with this text."""

@@ -212,6 +212,24 @@ class Locations(Folder):
         self.assertEqual(self.read(patterns=("**/*.y?ml",)).files, 3)
 
 
+    def test_excluded(self) -> None:
+        for name in ("a", "skeleton", "b/skeleton/c", "d"):
+            self.write(f"{name}/catalog-info.yaml", COMPONENT_YAML.format(name=name.replace("/", "-")))
+        self.assertEqual(sorted(self.read(excluded=("skeleton", "d/*.yaml")).entities), ["component:default/a"])
+
+    def test_spaces_in_paths(self) -> None:
+        self.write("my team/x y.yaml", COMPONENT_YAML.format(name="x"))
+        self.write("my team/catalog-info.yaml", self.location("a", "./x y.yaml"))
+        reading = self.read()
+        self.assertEqual(sorted(reading.entities), ["component:default/x", "location:default/a"])
+        found = json.loads(reading.entities["location:default/a"].body)
+        self.assertEqual(found["spec"]["targets"], ["./x%20y.yaml"])
+        self.assertTrue(found["metadata"]["annotations"][MANAGED_BY].endswith("/my%20team/catalog-info.yaml"))
+
+    def test_a_kind_in_lower_case_stays(self) -> None:
+        self.assertEqual(self.read_text(COMPONENT_YAML.format(name="web").replace("Component", "component")).refused, {"component:default/web"})
+
+
 class Placeholders(Folder):
     """`$text`, `$json` and `$yaml`."""
 

@@ -9,7 +9,7 @@ from urllib.parse import urlsplit
 
 from . import rules
 from .core_schema import Fraction
-from .entities import entity_of, resting_location, targets_of, without_made, without_mark
+from .entities import entity_of, resting_location, without_made, without_mark
 from .errors import ClientError, RefusedError
 from .places import Place
 from .reading import Reading, other_kind, probable_reference, profile_breaches
@@ -100,14 +100,9 @@ def _take(reading: Reading, document: Any, provider: str, numbers_as_text: bool,
     for breach in breaches:
         reading.refuse(place, breach.message, probable_reference(descriptor) or place.source)
     if not breaches:
-        reading.add(entity_of(_resting(descriptor), provider, place))
-
-
-def _resting(descriptor: Dict[str, Any]) -> Dict[str, Any]:
-    """A Location as one whose targets Backstage has read already."""
-    if descriptor["kind"] != "Location":
-        return descriptor
-    return resting_location(descriptor, all("://" in target for target in targets_of(descriptor)))
+        # Backstage has followed the targets of a Location already
+        given = resting_location(descriptor) if descriptor["kind"] == "Location" else descriptor
+        reading.add(entity_of(given, provider, place))
 
 
 def _name(document: Dict[str, Any]) -> str:

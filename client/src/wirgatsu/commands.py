@@ -27,13 +27,13 @@ def _server(arguments: argparse.Namespace) -> Server:
 
 def _reader(arguments: argparse.Namespace, provider: str, finder: Finder) -> FileReader:
     patterns = tuple(arguments.glob) or USUAL_NAMES
-    settings = Settings(provider, patterns, arguments.numbers_as_text, arguments.as_is, frozenset(arguments.skip_kind))
+    settings = Settings(provider, patterns, tuple(arguments.exclude), arguments.numbers_as_text, arguments.as_is, frozenset(arguments.skip_kind))
     return ShelfReader(settings, finder) if getattr(arguments, "shelf", False) else FileReader(settings, finder)
 
 
 def _read(arguments: argparse.Namespace, reader: FileReader) -> None:
     patterns = reader.settings.patterns
-    files = reader.finder.roots(arguments.paths, patterns)
+    files = reader.finder.roots(arguments.paths, patterns, reader.settings.excluded)
     if not files:
         raise ClientError(f"there is no {' or '.join(patterns)} below {', '.join(arguments.paths)}")
     with Progress("reading files", len(files)) as progress:

@@ -4,6 +4,7 @@ from __future__ import annotations
 
 import copy
 import json
+import re
 from dataclasses import dataclass
 from typing import Any, Dict, List, Optional
 
@@ -80,16 +81,26 @@ def _without_annotations(metadata: Dict[str, Any], keys: Any) -> Dict[str, Any]:
     return {**rest, "annotations": kept} if kept else rest
 
 
-def resting_location(descriptor: Dict[str, Any], absolute_alone: bool) -> Dict[str, Any]:
+def resting_location(descriptor: Dict[str, Any]) -> Dict[str, Any]:
     """A Location whose targets were followed already: the catalogue needn't find them on its shelf.
 
     Where a target is relative the Location loses its type, so that the type of the place that it stands at counts.
     """
     resting = copy.deepcopy(descriptor)
-    resting["spec"]["presence"] = "optional"
-    if not absolute_alone:
-        resting["spec"].pop("type", None)
+    spec = resting["spec"]
+    spec["presence"] = "optional"
+    if MANAGED_BY in annotations_of(descriptor) and not all("://" in target for target in targets_of(descriptor)):
+        spec.pop("type", None)
+    if "target" in spec:
+        spec["target"] = _without_spaces(spec["target"])
+    if "targets" in spec:
+        spec["targets"] = [_without_spaces(target) for target in spec["targets"]]
     return resting
+
+
+def _without_spaces(target: str) -> str:
+    """The target with spaces and control characters as in an address, since no name of the shelf may have them."""
+    return re.sub(r"[\x00-\x20\x7f]", lambda found: f"%{ord(found[0]):02X}", target)
 
 
 def targets_of(descriptor: Dict[str, Any]) -> List[str]:

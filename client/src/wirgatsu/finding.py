@@ -41,19 +41,24 @@ def _pattern(text: str) -> "re.Pattern[str]":
     return re.compile("".join(parts.get(piece, re.escape(piece)) for piece in pieces))
 
 
-def files_below(folder: str, patterns: Sequence[str], bound: Path) -> Iterator[File]:
-    """The files below a folder that a pattern matches, in order of their paths."""
-    wanted = [_pattern(pattern) for pattern in patterns]
+def files_below(folder: str, patterns: Sequence[str], excluded: Sequence[str], bound: Path) -> Iterator[File]:
+    """The files below a folder that a pattern matches, in order of their paths, without those that are excluded or in an excluded folder."""
+    wanted, unwanted = [[_pattern(text) for text in texts] for texts in (patterns, excluded)]
     top, real_top = os.path.join(folder, ""), os.path.realpath(folder)
     for place, folders, names in os.walk(top):
-        folders[:] = sorted(name for name in folders if name not in _PASSED_OVER)
+        below = os.path.join(place, "")[len(top):]
+        folders[:] = sorted(name for name in folders if name not in _PASSED_OVER and not _matches(unwanted, below + name))
         for name in sorted(names):
-            shown = os.path.join(place, name)
-            inside = shown[len(top):]
-            if any(pattern.fullmatch(inside.replace(os.sep, "/")) for pattern in wanted):
+            inside = below + name
+            if _matches(wanted, inside) and not _matches(unwanted, inside):
+                shown = os.path.join(place, name)
                 # no folder on the way is a link, so only the file itself can be one
                 real = os.path.realpath(shown) if os.path.islink(shown) else os.path.join(real_top, inside)
                 yield File(Path(real), os.path.normpath(shown), bound)
+
+
+def _matches(patterns: "List[re.Pattern[str]]", inside: str) -> bool:
+    return any(pattern.fullmatch(inside.replace(os.sep, "/")) for pattern in patterns)
 
 
 class Finder:
@@ -82,13 +87,13 @@ class Finder:
             self._tops[folder] = folder if here else self._top(above) if above != folder else None
         return self._tops[folder]
 
-    def roots(self, paths: Sequence[str], patterns: Sequence[str]) -> List[File]:
+    def roots(self, paths: Sequence[str], patterns: Sequence[str], excluded: Sequence[str] = ()) -> List[File]:
         """The files that the words of the command line name."""
         found: List[File] = []
         for path in paths:
             real = Path(os.path.realpath(path))
             if real.is_dir():
-                found += files_below(path, patterns, self._bound(real))
+                found += files_below(path, patterns, excluded, self._bound(real))
             elif real.exists():
                 found.append(File(real, os.path.normpath(path), self._bound(real.parent)))
             else:

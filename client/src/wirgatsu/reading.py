@@ -6,6 +6,7 @@ from collections import deque
 from dataclasses import dataclass, field
 from pathlib import Path
 from typing import Any, Callable, Deque, Dict, FrozenSet, Iterable, List, Optional, Sequence, Set, Tuple
+from urllib.parse import quote
 
 from . import rules
 from .entities import EDIT, MANAGED_BY, ORIGIN, SOURCE, Entity, annotations_of, entity_of, reference_of, resting_location, targets_of
@@ -24,6 +25,7 @@ class Settings:
 
     provider: str = "files"
     patterns: Sequence[str] = USUAL_NAMES
+    excluded: Sequence[str] = ()
     numbers_as_text: bool = False
     as_is: bool = False
     skipped_kinds: FrozenSet[str] = frozenset()
@@ -128,7 +130,7 @@ class FileReader:
         if self._last[0] != path:
             checkout = self.finder.checkout(path.parent)
             page = checkout.file_address(path) if checkout else None
-            found = {MANAGED_BY: f"url:{page}" if page else f"file:{path.as_posix()}"}
+            found = {MANAGED_BY: f"url:{page}" if page else f"file:{quote(path.as_posix())}"}
             folder, edit = (checkout.folder_address(path), checkout.edit_address(path)) if checkout else (None, None)
             found.update({SOURCE: f"url:{folder}"} if folder else {})
             found.update({EDIT: edit} if edit else {})
@@ -173,7 +175,7 @@ class FileReader:
         if kind not in self.settings.skipped_kinds:
             name = descriptor.get("metadata", {}).get("name") if isinstance(descriptor.get("metadata"), dict) else None
             message = f"{kind} '{name}' is left out: the catalogue has no kind {kind}"
-            self.reading.problems.append(Problem(document.place(("kind",)), message))
+            self.reading.refuse(document.place(("kind",)), message, probable_reference(descriptor))
         return True
 
     def _bring_in(self, file: File, document: Document, descriptor: Dict[str, Any]) -> None:
@@ -201,7 +203,7 @@ class FileReader:
         else:
             message = f"the targets of a Location of the type {descriptor['spec']['type']} aren't followed"
             self.reading.warnings.append(Problem(document.place(("spec", "type")), message))
-        return resting_location(descriptor, all("://" in target for target in targets))
+        return resting_location(descriptor)
 
     def _follow(self, file: File, document: Document, descriptor: Dict[str, Any], position: int, target: str) -> None:
         offset = 1 if "target" in descriptor["spec"] else 0
