@@ -33,9 +33,11 @@ class PushedOrganisation(Served):
 
     def test_step_of_a_build_server(self) -> None:
         command = CLIENT / "wirgatsu"
-        variables = {**os.environ, "WIRGATSU_SERVER": self.server, "WIRGATSU": str(command), "PATH": os.path.dirname(sys.executable) + os.pathsep + os.environ["PATH"]}
+        variables = {**os.environ, "WIRGATSU_SERVER": self.server, "WIRGATSU": str(command),
+            "PATH": os.path.dirname(sys.executable) + os.pathsep + os.environ["PATH"]}
         for _ in range(2):
-            done = subprocess.run([str(CLIENT / "examples" / "push_on_merge.sh"), str(ORGANISATION)], env=variables, capture_output=True, text=True, check=False)
+            done = subprocess.run([str(CLIENT / "examples" / "push_on_merge.sh"), str(ORGANISATION)], env=variables, capture_output=True, text=True,
+                check=False)
             self.assertEqual((done.returncode, done.stderr), (0, ""), done.stdout)
         self.assertIn("0 to add, 0 to change, 0 to remove", done.stdout)
 

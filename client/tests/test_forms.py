@@ -68,7 +68,8 @@ class ElevenForms(Folder):
         self.assertEqual(sorted(self.read_text(text).entities), ["component:default/lib", "component:default/web"])
 
     def test_11_words_that_older_yaml_takes_for_something_else(self) -> None:
-        text = COMPONENT_YAML.format(name="web\n  title: no\n  annotations:\n    example.com/on-call: on\n    example.com/since: 2021-01-31\n    example.com/at: 12:30:45")
+        annotations = "    example.com/on-call: on\n    example.com/since: 2021-01-31\n    example.com/at: 12:30:45"
+        text = COMPONENT_YAML.format(name="web\n  title: no\n  annotations:\n" + annotations)
         metadata = self.one(text)["metadata"]
         self.assertEqual(metadata["title"], "no")
         self.assertEqual([metadata["annotations"][f"example.com/{key}"] for key in ("on-call", "since", "at")], ["on", "2021-01-31", "12:30:45"])

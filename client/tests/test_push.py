@@ -271,7 +271,8 @@ class NoServer(Folder):
     def test_statuses(self) -> None:
         self.write("catalog-info.yaml", COMPONENT_YAML.format(name="a"))
         address = f"http://127.0.0.1:{free_port()}"
-        for words in (("push", str(self.folder), "--yes"), ("list",), ("get", "component:a"), ("status",), ("watch",), ("export",), ("owned", "a"), ("import", address)):
+        for words in (("push", str(self.folder), "--yes"), ("list",), ("get", "component:a"), ("status",), ("watch",), ("export",), ("owned", "a"), ("import",
+            address)):
             status, out, err = run(*words, "--server", address)
             self.assertEqual((status, out), (3, ""))
             self.assertTrue(err.startswith("wirgatsu: no server answers at http://127.0.0.1:"), err)

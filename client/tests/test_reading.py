@@ -9,7 +9,7 @@ import unittest
 from pathlib import Path
 from typing import Any, Dict, List, Tuple
 
-from .support import COMPONENT_YAML, Folder, component, descriptor, group, run
+from .support import COMPONENT_YAML, Folder, Served, component, descriptor, group, run
 
 from wirgatsu.checkout import Checkout, page_of_remote
 from wirgatsu.entities import EDIT, MANAGED_BY, ORIGIN, SOURCE
@@ -125,25 +125,32 @@ BAD_FORMS: List[Tuple[str, str, str]] = [
     (HEAD.replace("Component", "User") + "spec:\n  profile: {email: 1}\n", "6:20", "spec.profile.email must be a text"),
     (HEAD.replace("Component", "Location") + "spec:\n  presence: maybe\n", "6:13", "spec.presence must be"),
     (HEAD.replace("Component", "Location") + "spec:\n  targets: [a.yaml, '']\n", "6:21", "spec.targets.1 names nothing"),
-    (HEAD.replace("Component", "API") + "spec:\n  type: a\n  lifecycle: b\n  owner: c\n  definition: {$openapi: a}\n", "9:15", "spec.definition must be a text"),
+    (HEAD.replace("Component", "API") + "spec:\n  type: a\n  lifecycle: b\n  owner: c\n  definition: {$openapi: a}\n", "9:15",
+    "spec.definition must be a text"),
 ]
+
+
+def write_tree(test: Folder) -> Tuple[Dict[str, str], List[Tuple[str, str]]]:
+    """Writes some two hundred files, a folder each: the names of those that come in, and the place and message of each that doesn't."""
+    good: Dict[str, str] = {}
+    expected: List[Tuple[str, str]] = []
+    for round_, folder in enumerate(("apps", "libs/deep/down")):
+        for number, text in enumerate(GOOD_FORMS):
+            name = f"good-{round_}-{number}"
+            test.write(f"{folder}/{name}/catalog-info.yaml", text.replace("NAME", name))
+            good[name] = text
+        for number, (text, place, message) in enumerate(BAD_FORMS):
+            name = f"bad-{round_}-{number}"
+            test.write(f"{folder}/{name}/catalog-info.yaml", text.replace("NAME", name))
+            expected.append((f"{folder}/{name}/catalog-info.yaml:{place}: ", message.replace("NAME", name)))
+    return good, expected
 
 
 class TreeOfFiles(Folder):
     """A tree of some two hundred files in the forms that people write: each comes in, or is refused with its line."""
 
     def test_each_file(self) -> None:
-        good: Dict[str, str] = {}
-        expected: List[Tuple[str, str]] = []
-        for round_, folder in enumerate(("apps", "libs/deep/down")):
-            for number, text in enumerate(GOOD_FORMS):
-                name = f"good-{round_}-{number}"
-                self.write(f"{folder}/{name}/catalog-info.yaml", text.replace("NAME", name))
-                good[name] = text
-            for number, (text, place, message) in enumerate(BAD_FORMS):
-                name = f"bad-{round_}-{number}"
-                self.write(f"{folder}/{name}/catalog-info.yaml", text.replace("NAME", name))
-                expected.append((f"{folder}/{name}/catalog-info.yaml:{place}: ", message.replace("NAME", name)))
+        good, expected = write_tree(self)
         reading = self.read()
         self.assertEqual(reading.files, len(good) + len(expected))
         self.assertGreaterEqual(reading.files, 200)
@@ -151,8 +158,24 @@ class TreeOfFiles(Folder):
         shown = self.problems(reading)
         for place, message in expected:
             with self.subTest(place):
-                self.assertTrue(any(line.startswith(place) and message in line for line in shown), [line for line in shown if line.startswith(place.rsplit(":", 3)[0])])
+                of_file = [line for line in shown if line.startswith(place.rsplit(":", 3)[0] + ":")]
+                self.assertTrue(any(line.startswith(place) and message in line for line in of_file), of_file)
         self.assertEqual(len(shown), len(expected))
+
+
+class PushedTree(Served):
+    """The server takes what comes in, as it stands in the files."""
+
+    def test_each_file(self) -> None:
+        good, expected = write_tree(self)
+        status, _, err = self.push()
+        self.assertEqual((status, err.splitlines()[-1]), (1, f"{len(expected)} problems; the rest is in the catalogue."))
+        self.assertEqual(self.catalogue.ask("GET", "/failed"), [])
+        documents = self.catalogue.documents()
+        self.assertEqual({document["metadata"]["name"] for document in documents.values()}, set(good))
+        for reference, entity in self.read(provider="p").entities.items():
+            made = {key: value for key, value in documents[reference].items() if key != "relations"}
+            self.assertEqual(made, json.loads(entity.body))
 
 
 class Locations(Folder):
@@ -204,7 +227,8 @@ class Locations(Folder):
         self.assertEqual(self.problems(self.read()), ["b/catalog-info.yaml:1:1: component:default/web stands already at a/catalog-info.yaml:1:1"])
 
     def test_patterns_of_files(self) -> None:
-        for name in ("a/catalog-info.yaml", "b/catalog-info.yml", "c/entity.yaml", "d/e/entity.yaml", ".git/catalog-info.yaml", "node_modules/x/catalog-info.yaml"):
+        for name in ("a/catalog-info.yaml", "b/catalog-info.yml", "c/entity.yaml", "d/e/entity.yaml", ".git/catalog-info.yaml",
+            "node_modules/x/catalog-info.yaml"):
             self.write(name, COMPONENT_YAML.format(name=name.replace("/", "-").strip(".").replace("_", "-")))
         self.assertEqual(self.read().files, 2)
         self.assertEqual(self.read(patterns=("entity.yaml",)).files, 2)
@@ -252,7 +276,8 @@ class Placeholders(Folder):
         self.write("a.yaml", "a: b: c\n")
         self.write("two.yaml", "a: 1\n---\nb: 2\n")
         self.write("l.txt", b"\xff")
-        for value, words in (({"$json": "a.json"}, "which is no JSON"), ({"$yaml": "a.yaml"}, "a.yaml:1:5: this is no YAML"), ({"$yaml": "two.yaml"}, "has 2 documents"),
+        for value, words in (({"$json": "a.json"}, "which is no JSON"), ({"$yaml": "a.yaml"}, "a.yaml:1:5: this is no YAML"), ({"$yaml": "two.yaml"},
+            "has 2 documents"),
                              ({"$text": "l.txt"}, "isn't UTF-8"), ({"$text": 1}, "must name a file"), ({"$json": "f.json"}, "holds no fractions")):
             with self.subTest(value):
                 problems = self.problems(self.read_text(json.dumps(component("web", x=value))))
@@ -291,7 +316,8 @@ class Checkouts(Folder):
         self.checkout("https://github.com/acme/shop")
         self.write("x.yaml", COMPONENT_YAML.format(name="x"))
         address = "https://github.com/acme/shop/blob/main/x.yaml"
-        reading = self.read_text(json.dumps(descriptor("Location", "a", {"type": "url", "targets": [address, "https://github.com/acme/other/blob/main/y.yaml"]})))
+        reading = self.read_text(json.dumps(descriptor("Location", "a", {"type": "url", "targets": [address,
+            "https://github.com/acme/other/blob/main/y.yaml"]})))
         self.assertIn("component:default/x", reading.entities)
         self.assertIn("outside this checkout", self.problems(reading)[0])
         self.assertEqual(json.loads(reading.entities["location:default/a"].body)["spec"]["type"], "url")
@@ -299,7 +325,8 @@ class Checkouts(Folder):
     def test_pages_of_remotes(self) -> None:
         for remote, page in (
                 ("git@github.com:acme/shop.git", "https://github.com/acme/shop"), ("ssh://git@host.example:2222/a/b.git", "https://host.example/a/b"),
-                ("https://u:p@host.example:8443/a/b/", "https://host.example:8443/a/b"), ("git@ssh.dev.azure.com:v3/org/proj/repo", "https://dev.azure.com/org/proj/_git/repo"),
+                ("https://u:p@host.example:8443/a/b/", "https://host.example:8443/a/b"), ("git@ssh.dev.azure.com:v3/org/proj/repo",
+                "https://dev.azure.com/org/proj/_git/repo"),
                 ("/srv/git/a.git", None), ("../a", None), ("file:///srv/a", None)):
             self.assertEqual(page_of_remote(remote), page)
 
@@ -332,7 +359,8 @@ class Validate(Folder):
     """`wirgatsu validate`, which needs no server."""
 
     def test_statuses(self) -> None:
-        good, bad = self.write("good.yaml", COMPONENT_YAML.format(name="web")), self.write("bad.yaml", COMPONENT_YAML.format(name="web").replace("  owner: team-a\n", ""))
+        good, bad = self.write("good.yaml", COMPONENT_YAML.format(name="web")), self.write("bad.yaml",
+            COMPONENT_YAML.format(name="web").replace("  owner: team-a\n", ""))
         self.assertEqual(run("validate", str(good)), (0, "1 entity in 1 file can be brought in.\n", ""))
         self.assertEqual(run("validate", str(bad)), (1, "", f"{bad}:5:1: spec.owner is required\n1 problem in 1 file.\n"))
         self.assertEqual(run("validate", str(self.folder / "none"))[0], 2)
@@ -350,7 +378,7 @@ class Python39(unittest.TestCase):
 
     def test_syntax(self) -> None:
         import ast
-        for path in sorted(Path(__file__).parent.parent.glob("src/wirgatsu/*.py")):
+        for path in sorted(Path(__file__).parent.parent.glob("**/*.py")):
             ast.parse(path.read_text(encoding="utf-8"), feature_version=(3, 9))
 
     def test_functions_are_short(self) -> None:

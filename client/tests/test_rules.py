@@ -14,11 +14,13 @@ from wirgatsu.names import Reference, ReferenceFault, is_key, is_name, is_namesp
 from wirgatsu.places import dotted
 from wirgatsu.reading import profile_breaches
 
-VALUES: List[Any] = [None, True, 7, "", "a", "a b", "A", "a-", "-a", "a_b", "a.b", "a/b", "x/y/z", "k:a", "k:n/a", "resource:default/a", "1:b", "a--b", "c++", "java",
+VALUES: List[Any] = [None, True, 7, "", "a", "a b", "A", "a-", "-a", "a_b", "a.b", "a/b", "x/y/z", "k:a", "k:n/a", "resource:default/a", "1:b", "a--b", "c++",
+    "java",
                      "é", "a" * 63, "a" * 64, [], ["a"], ["", "b"], [1], {}, {"a": "b"}, {"a b": "c"}, {"a.example/b": "c"}, {"url": "x"}, [{"url": "x"}],
                      [{"url": ""}], [{"url": "x", "title": 1}], ["component:a", "k:b/c"], "url", "a b:c", "optional", {"email": 1}, {"displayName": "x"}]
 FIELDS = ["apiVersion", "kind", "metadata.title", "metadata.description", "metadata.labels", "metadata.annotations", "metadata.tags", "metadata.links",
-          "metadata.labels.x", "metadata.annotations.x", "spec", "spec.type", "spec.lifecycle", "spec.owner", "spec.definition", "spec.system", "spec.subcomponentOf",
+          "metadata.labels.x", "metadata.annotations.x", "spec", "spec.type", "spec.lifecycle", "spec.owner", "spec.definition", "spec.system",
+          "spec.subcomponentOf",
           "spec.providesApis", "spec.consumesApis", "spec.dependsOn", "spec.dependencyOf", "spec.domain", "spec.subdomainOf", "spec.parent", "spec.children",
           "spec.members", "spec.memberOf", "spec.profile", "spec.presence", "spec.target", "spec.targets", "spec.other"]
 BASES = [component("a"), group("a"), descriptor("User", "a", {}), descriptor("API", "a", {"type": "x", "lifecycle": "x", "owner": "x", "definition": "x"}),

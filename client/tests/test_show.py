@@ -25,9 +25,12 @@ class Showing(Served):
 
     def setUp(self) -> None:
         super().setUp()
-        given = [component("web", "team-a", system="shop", consumesApis=["orders"]), component("lib", "team-b"), descriptor("System", "shop", {"owner": "team-a", "domain": "trade"}),
-                 descriptor("Domain", "trade", {"owner": "team-b"}), group("team-a", parent="dept", profile={"displayName": "Team A", "email": "a@b.example"}), group("team-b"),
-                 group("dept"), descriptor("User", "ann", {"memberOf": ["team-a"]}), component("web", "ann", system="shop") | {"metadata": {"name": "web", "namespace": "other"}}]
+        given = [component("web", "team-a", system="shop", consumesApis=["orders"]), component("lib", "team-b"), descriptor("System", "shop",
+            {"owner": "team-a", "domain": "trade"}),
+                 descriptor("Domain", "trade", {"owner": "team-b"}), group("team-a", parent="dept", profile={"displayName": "Team A",
+                 "email": "a@b.example"}), group("team-b"),
+                 group("dept"), descriptor("User", "ann", {"memberOf": ["team-a"]}), component("web", "ann", system="shop") | {"metadata": {"name": "web",
+                 "namespace": "other"}}]
         self.catalogue.ask("POST", "/providers/git/full", {"serial": 1, "entities": [{"entity": one} for one in given]})
         self.catalogue.ask("POST", "/settle")
 
@@ -41,11 +44,13 @@ class Showing(Served):
             self.assertEqual(run(*words, "--server", self.server)[0], status)
 
     def test_list(self) -> None:
-        self.assertEqual(self.run_ok("list", "--filter", "kind=group", "-o", "name").split(), ["group:default/dept", "group:default/team-a", "group:default/team-b"])
+        self.assertEqual(self.run_ok("list", "--filter", "kind=group", "-o", "name").split(), ["group:default/dept", "group:default/team-a",
+            "group:default/team-b"])
         self.assertEqual(len(json.loads(self.run_ok("list", "-o", "json"))), 9)
         self.assertEqual(len(list(yaml.safe_load_all(self.run_ok("list", "-o", "yaml")))), 9)
         self.assertEqual(self.run_ok("list", "--filter", "kind=component,spec.system=none", "--filter", "metadata.name=lib"),
-                         "KIND        NAME   TYPE      LIFECYCLE    SYSTEM   OWNER\nComponent   lib    service   production            group:team-b\n1 entity.\n")
+                         "KIND        NAME   TYPE      LIFECYCLE    SYSTEM   OWNER\n"
+                         "Component   lib    service   production            group:team-b\n1 entity.\n")
 
     def test_owned_and_owners(self) -> None:
         self.assertEqual(self.run_ok("owned", "group:team-a", "-o", "name").split(), ["component:default/web", "system:default/shop"])
@@ -76,7 +81,8 @@ class Showing(Served):
     def test_watch(self) -> None:
         def change() -> None:
             time.sleep(0.5)
-            self.catalogue.ask("POST", "/providers/hr/full", {"serial": 1, "entities": [{"entity": component("new", "team-b")}, {"entity": component("x", "team-c")}]})
+            self.catalogue.ask("POST", "/providers/hr/full", {"serial": 1, "entities": [{"entity": component("new", "team-b")}, {"entity": component("x",
+                "team-c")}]})
             time.sleep(1.5)
             self.catalogue.ask("POST", "/providers/hr/full", {"serial": 2, "entities": [{"entity": component("new", "team-b", type="library")}]})
             time.sleep(1.5)
@@ -84,7 +90,8 @@ class Showing(Served):
 
         thread = threading.Thread(target=change)
         thread.start()
-        status, out, err = run("watch", "--filter", "kind=component,relations.ownedBy=group:default/team-b", "--interval", "0.2", "--count", "3", "--server", self.server)
+        status, out, err = run("watch", "--filter", "kind=component,relations.ownedBy=group:default/team-b", "--interval", "0.2", "--count", "3", "--server",
+            self.server)
         thread.join()
         self.assertEqual(status, 0)
         self.assertEqual([line.split()[1:] for line in out.splitlines()], [
@@ -125,8 +132,10 @@ class Filters(unittest.TestCase):
     def test_filters(self) -> None:
         document = {**component("Web", "a", flag=True, size=7), "relations": [{"type": "ownedBy", "targetRef": "group:default/a"}]}
         document["metadata"]["tags"] = ["Java"]
-        for text, holds in (("", True), ("kind=COMPONENT", True), ("kind=api,kind=component", True), ("kind=component,spec.type=x", False), ("metadata.tags.java", True),
-                            ("metadata.tags=java", True), ("spec.flag=true, spec.size=7 ,", True), ("relations.ownedby=group:default/A", True), ("relations", False), ("spec", False)):
+        for text, holds in (("", True), ("kind=COMPONENT", True), ("kind=api,kind=component", True), ("kind=component,spec.type=x", False),
+            ("metadata.tags.java", True),
+                            ("metadata.tags=java", True), ("spec.flag=true, spec.size=7 ,", True), ("relations.ownedby=group:default/A", True), ("relations",
+                            False), ("spec", False)):
             self.assertEqual(matches(document, [conditions_of(text)]), holds, text)
         self.assertTrue(matches(document, []))
         self.assertTrue(matches(document, [conditions_of("kind=api"), conditions_of("metadata.name=web")]))

@@ -161,8 +161,10 @@ class Writing(unittest.TestCase):
     """What is written is read again as what it was."""
 
     TEXTS = ["", "yes", "no", "null", "~", "1", "1.5", "1e3", "0o17", "0x1f", "1:30", "2026-12-01", ".inf", "<<", "=", "- a", "a: b", "# c", "a #b", " a", "a ",
-             "a\n", "a\nb", "\na", "a\n\n\n", " a\n b\n", "a\n  b\n c", "\t", "a\tb", "a\r\nb", "\x85", "\u2028", "\ufeff", "é", "\U0001f600", "\x00", "\x7f", "'", '"', "\\",
-             "true", "{a}", "[a]", "*a", "&a", "!a", "%a", "@a", "`a", "|", ">", "?", "? a", ":", "-", "---", "...", "a\n---\nb", "x" * 300, "word " * 60, "a\n\tb\n", "  \n a"]
+             "a\n", "a\nb", "\na", "a\n\n\n", " a\n b\n", "a\n  b\n c", "\t", "a\tb", "a\r\nb", "\x85", "\u2028", "\ufeff", "é", "\U0001f600", "\x00", "\x7f",
+             "'", '"', "\\",
+             "true", "{a}", "[a]", "*a", "&a", "!a", "%a", "@a", "`a", "|", ">", "?", "? a", ":", "-", "---", "...", "a\n---\nb", "x" * 300, "word " * 60,
+             "a\n\tb\n", "  \n a"]
 
     def test_texts(self) -> None:
         for text in self.TEXTS:
@@ -191,8 +193,10 @@ class Writing(unittest.TestCase):
 class BlockYaml(unittest.TestCase):
     """Which texts go to the shelf as they are."""
 
-    TAKEN = ["a: b\n", "a:\n  - b\n  - c: 'd'\n", "a: [b, 'c']\n", "a: {}\nb: []\n", "a: |\n  x\n  y\nb: |-\n  z\n", "---\na: b # c\n---\nd: 12\n", 'a: "x\\u00e9"\n']
-    BEYOND = ["a: >-\n  b\n", "a: {b: c}\n", "a: &x b\nc: *x\n", "a: b\n  c\n", "a: [b, [c]]\n", "a: [b,\n  c]\n", "a: [b,]\n", "a: 1.5\n", "a: 0x1f\n", "a: !!str b\n",
+    TAKEN = ["a: b\n", "a:\n  - b\n  - c: 'd'\n", "a: [b, 'c']\n", "a: {}\nb: []\n", "a: |\n  x\n  y\nb: |-\n  z\n", "---\na: b # c\n---\nd: 12\n",
+        'a: "x\\u00e9"\n']
+    BEYOND = ["a: >-\n  b\n", "a: {b: c}\n", "a: &x b\nc: *x\n", "a: b\n  c\n", "a: [b, [c]]\n", "a: [b,\n  c]\n", "a: [b,]\n", "a: 1.5\n", "a: 0x1f\n",
+        "a: !!str b\n",
               "%YAML 1.2\n---\na: b\n", "a: b\n...\n", "? a\n: b\n", "a:\tb\n", 'a: "\\x41"\n', "a: |2\n    x\n", "", "# none\n", "a: 'b\n  c'\n", "a: b: c\n"]
 
     def test_both(self) -> None:

@@ -81,7 +81,8 @@ def _add_file_options(command: argparse.ArgumentParser) -> None:
                          help="pass over files and folders that match, as skeleton (may come again)")
     command.add_argument("--as-is", action="store_true", help="set no annotations and follow no Locations")
     command.add_argument("--branch", help="the branch that annotations name (default: the checkout's)")
-    command.add_argument("--forge", choices=("github", "gitlab", "gitea", "bitbucket", "azure"), help="how the remote's pages are laid out (default: by its name)")
+    command.add_argument("--forge", choices=("github", "gitlab", "gitea", "bitbucket", "azure"),
+        help="how the remote's pages are laid out (default: by its name)")
 
 
 def _add_giving_options(command: argparse.ArgumentParser) -> None:

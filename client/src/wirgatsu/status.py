@@ -14,7 +14,7 @@ def status(server: Server) -> int:
     failed, conflicts, orphans = server.failed(), server.conflicts(), server.orphans()
     rows = [row for one in failed for row in _failures(one)]
     rows += [("in conflict", one["entityRef"], _conflict(one)) for one in conflicts]
-    rows += [("orphaned", reference, "nothing gives it any more; `forget` or a new source ends that") for reference in orphans]
+    rows += [("orphaned", reference, "nothing gives it any more") for reference in orphans]
     if rows:
         print(table(("STATE", "ENTITY", "REASON"), rows))
     print(f"{counted(len(failed), 'failed entity', 'failed entities')}, {counted(len(conflicts), 'conflict')}, {counted(len(orphans), 'orphan')}.")
