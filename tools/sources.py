@@ -18,6 +18,14 @@ def crates():
     return [line.split(':')[0] for line in lines if ':' in line and not line.startswith('#')]
 
 
+def write_list(name, text):
+    """Writes a list into the folder that git ignores."""
+    folder = os.path.join(TOP, 'out', 'lists')
+    os.makedirs(folder, exist_ok=True)
+    with open(os.path.join(folder, name), 'w', encoding='utf-8') as page:
+        page.write(text)
+
+
 def spec_files(crate):
     return sorted(glob.glob(os.path.join(TOP, 'crates', crate, 'specs', '**', '*.antt'), recursive=True))
 
