@@ -1,9 +1,10 @@
 -- Rounds that follow one another.
 use Rattle.std.proofs.Common.{◌≡◌, ℕ, Bool, false, List, [], ◌∷◌, ◌++◌, refl, sym, ap, ◌∙◌, subst, append_assoc}
+use Rattle.std.specs.declared.option.Option.{Option}
 use Rattle.std.specs.declared.option.Option.TheVariants.{None, Some}
 use Rattle.cat_desk.specs.Deed.{Deed}
 use Rattle.cat_desk.specs.declared.command.Reply.{Reply}
-use Rattle.cat_workers.specs.Rounds.{BringsBack, GoesOn, IsRound, Kind, Loops, Round, WentOn, all_steps, bringing, is_busy, is_done, next_after, steps}
+use Rattle.cat_workers.specs.Rounds.{BringsBack, GoesOn, IsRound, Kind, Loops, Round, WentOn, all_steps, bringing, is_back, is_busy, is_done, next_after, steps}
 use Rattle.cat_workers.specs.Steps.{DoesGated, Leads, Step}
 use Rattle.cat_workers.specs.declared.gate.GateCall.{GateCall}
 use Rattle.cat_workers.specs.declared.gate.Go.{Go}
@@ -15,17 +16,17 @@ module _ (kind : Kind) where
   steps_append : (after : ℕ) (rounds : List Round) (r : Round) → all_steps kind after (rounds ++ r ∷ []) ≡ all_steps kind after rounds ++ all_steps kind (next_after kind after rounds) (r ∷ [])
   steps_append after [] r = refl
   steps_append after (x ∷ rounds) r =
-      ap (λ l. steps kind after x ++ l) (steps_append (kind.next after x.taken) rounds r)
-      ∙ sym (append_assoc (steps kind after x) (all_steps kind (kind.next after x.taken) rounds) (all_steps kind (next_after kind (kind.next after x.taken) rounds) (r ∷ [])))
+      ap (λ l. steps kind after x ++ l) (steps_append (kind.next after x.taken x.brought) rounds r)
+      ∙ sym (append_assoc (steps kind after x) (all_steps kind (kind.next after x.taken x.brought) rounds) (all_steps kind (next_after kind (kind.next after x.taken x.brought) rounds) (r ∷ [])))
 
-  next_append : (after : ℕ) (rounds : List Round) (r : Round) → next_after kind after (rounds ++ r ∷ []) ≡ kind.next (next_after kind after rounds) r.taken
+  next_append : (after : ℕ) (rounds : List Round) (r : Round) → next_after kind after (rounds ++ r ∷ []) ≡ kind.next (next_after kind after rounds) r.taken r.brought
   next_append after [] r = refl
-  next_append after (x ∷ rounds) r = next_append (kind.next after x.taken) rounds r
+  next_append after (x ∷ rounds) r = next_append (kind.next after x.taken x.brought) rounds r
 
   on_append : (said : Go → Type 0) (after : ℕ) (rounds : List Round) (r : Round) → WentOn kind said after rounds
       → (is_busy kind (next_after kind after rounds) r ≡ false → said On) → WentOn kind said after (rounds ++ r ∷ [])
   on_append said after [] r went on = (on, tt)
-  on_append said after (x ∷ rounds) r went on = (went.0, on_append said (kind.next after x.taken) rounds r went.1 on)
+  on_append said after (x ∷ rounds) r went on = (went.0, on_append said (kind.next after x.taken x.brought) rounds r went.1 on)
 
 module _ {D : Type 0} (acts : D → Deed → D → Reply → Type 0) (told : GateCall → Type 0) where
   -- steps and then more steps
@@ -52,7 +53,7 @@ module _ {D : Type 0} (acts : D → Deed → D → Reply → Type 0) (told : Gat
       goes_on next next' busy old mid new so_far round on = record {
         rounds = so_far.rounds ++ round.round ∷ [];
         leads = leads_round 0 next so_far.rounds old mid new round.round so_far.next so_far.leads round.leads;
-        next = round.next ∙ (ap (λ n. kind.next n round.round.taken) so_far.next ∙ sym (next_append kind 0 so_far.rounds round.round));
+        next = round.next ∙ (ap (λ n. kind.next n round.round.taken round.round.brought) so_far.next ∙ sym (next_append kind 0 so_far.rounds round.round));
         on = on_append kind said 0 so_far.rounds round.round so_far.on (λ idle. on (round.is_busy ∙ (ap (λ n. is_busy kind n round.round) so_far.next ∙ idle)));
       }
 
@@ -70,26 +71,18 @@ module _ {D : Type 0} (acts : D → Deed → D → Reply → Type 0) (told : Gat
 
     -- ---- what a round is made of
 
-    -- there was no memory to work an order
-    pub lacked : (d : Deed) (desk : D) → BringsBack kind acts told d false desk desk
-    lacked d desk = record { brought = None; leads = refl; is_busy = refl }
-
-    -- what was worked of an order was brought back
-    pub brought : (d : Deed) (busy : Bool) (old new : D) (reply : Reply) → DoesGated acts told old d new reply → busy ≡ kind.has_come reply → BringsBack kind acts told d busy old new
-    brought d busy old new reply does is = record { brought = Some reply; leads = (new, does, refl); is_busy = is }
-
     -- a take that gave an order, and what came of that order
-    pub taken : (after next : ℕ) (busy : Bool) (old mid new : D) (reply : Reply) (d : Deed) → DoesGated acts told old (kind.take after) mid reply → kind.bring reply ≡ Some d → next ≡ kind.next after reply
-        → BringsBack kind acts told d busy mid new → IsRound kind acts told after next busy old new
-    taken after next busy old mid new reply d does order is brings = record {
-      round = record { taken = reply; brought = brings.brought };
-      leads = (mid, does, subst (λ o. Leads acts told (bringing o brings.brought) mid new) (sym order) brings.leads);
+    pub taken : (after next : ℕ) (busy : Bool) (old mid new : D) (reply : Reply) (d : Deed) (brought : Option Reply) → DoesGated acts told old (kind.take after) mid reply → kind.bring reply ≡ Some d
+        → next ≡ kind.next after reply brought → BringsBack acts told d brought mid new → busy ≡ is_back kind.has_come brought → IsRound kind acts told after next busy old new
+    taken after next busy old mid new reply d brought does order is brings is_busy = record {
+      round = record { taken = reply; brought = brought };
+      leads = (mid, does, subst (λ o. Leads acts told (bringing o brought) mid new) (sym order) brings);
       next = is;
-      is_busy = brings.is_busy ∙ sym (ap (λ o. is_done kind.has_come (kind.begins_anew after reply) o brings.brought) order);
+      is_busy = is_busy ∙ sym (ap (λ o. is_done kind.has_come (kind.begins_anew after reply) o brought) order);
     }
 
     -- a take that gave no order
-    pub untaken : (after next : ℕ) (busy : Bool) (old new : D) (reply : Reply) → DoesGated acts told old (kind.take after) new reply → kind.bring reply ≡ None → next ≡ kind.next after reply
+    pub untaken : (after next : ℕ) (busy : Bool) (old new : D) (reply : Reply) → DoesGated acts told old (kind.take after) new reply → kind.bring reply ≡ None → next ≡ kind.next after reply None
         → busy ≡ kind.begins_anew after reply → IsRound kind acts told after next busy old new
     untaken after next busy old new reply does order is anew = record {
       round = record { taken = reply; brought = None };

@@ -1,11 +1,12 @@
 -- The two kinds of workers.
-use Rattle.std.specs.Prelude.{ℕ, ◌==◌, Bool, true, false, not, option_map}
+use Rattle.std.specs.Prelude.{ℕ, ◌==◌, ◌+◌, ◌-◌, ◌^◌, Bool, true, false, min, not, option_map}
 use Rattle.std.specs.declared.option.Option.{Option}
 use Rattle.std.specs.declared.option.Option.TheVariants.{None, Some}
 use Rattle.cat_desk.specs.Deed.Deed.{Take, Finish, TakeStitch, PutStitch}
 use Rattle.cat_desk.specs.declared.command.Reply.{Reply}
 use Rattle.cat_desk.specs.declared.command.Reply.TheVariants.{Taken, Finished, StitchTaken, Placed}
 use Rattle.cat_model.specs.declared.types.Order.{Order}
+use Rattle.cat_model.specs.declared.types.Placed.TheVariants.{Late}
 use Rattle.cat_model.specs.declared.types.StitchOrder.{StitchOrder}
 use Rattle.cat_workers.specs.Rounds.{Kind}
 
@@ -26,7 +27,7 @@ abbrev pub worker : Kind
 worker = record {
   take = λ after. Take;
   bring = λ taken. option_map Finish (order_in taken);
-  next = λ after taken. after;
+  next = λ after taken brought. after;
   begins_anew = λ after taken. false;
   has_come = is_finished;
 }
@@ -44,6 +45,15 @@ next_ticket after (StitchTaken (Some order)) = order.ticket
 next_ticket after (StitchTaken None) = 0
 next_ticket after _ = after
 
+-- A stitcher whose document came late meets another one there, and goes this many tickets further.
+abbrev pub leap : ℕ
+leap = 64
+
+-- the ticket above which the next take is: a leap further where a document came late, as far as tickets go
+abbrev pub leapt : ℕ → Option Reply → ℕ
+leapt ticket (Some (Placed (Late present))) = min (ticket + leap) (2 ^ 64 - 1)
+leapt ticket _ = ticket
+
 -- where no mark has a higher ticket, marks may have lower ones
 abbrev pub begins_anew : ℕ → Reply → Bool
 begins_anew after (StitchTaken None) = not (after == 0)
@@ -54,12 +64,12 @@ abbrev pub is_placed : Reply → Bool
 is_placed (Placed placed) = true
 is_placed _ = false
 
--- Goes round the marks by their tickets, and brings back their documents.
+-- Goes round the marks by their tickets, and brings back their documents; where another was quicker, it goes a leap further.
 abbrev pub stitcher : Kind
 stitcher = record {
   take = TakeStitch;
   bring = λ taken. option_map PutStitch (stitch_order_in taken);
-  next = next_ticket;
+  next = λ after taken brought. leapt (next_ticket after taken) brought;
   begins_anew = begins_anew;
   has_come = is_placed;
 }

@@ -2,7 +2,7 @@
 ghost use Rattle.std.specs.Prelude.{◌≡◌};
 ghost use Rattle.cat_desk.specs.Deed.{Deed};
 ghost use Rattle.cat_workers.specs.Kinds.{is_finished, order_in, worker};
-ghost use Rattle.cat_workers.specs.Rounds.{BringsBack, IsRound, Loops};
+ghost use Rattle.cat_workers.specs.Rounds.{BringsBack, IsRound, Loops, is_back};
 ghost use Rattle.cat_workers.specs.Steps.{DoesGated};
 
 use crate::desk::WorkDesk;
@@ -23,11 +23,11 @@ fn order_in(reply: Reply) -> Option<Order>
     }
 }
 
-// Whether a result counts or is late.
-fn is_finished(reply: &Reply) -> bool
-    ensures { result ≡ is_finished reply.now }
+// Whether an order was worked and its result counts or is late.
+fn is_finished(brought: &Option<Reply>) -> bool
+    ensures { result ≡ is_back is_finished brought.now }
 {
-    matches!(reply, Reply::Finished(_))
+    matches!(brought, Some(Reply::Finished(_)))
 }
 
 // Takes an order, through the gate.
@@ -38,21 +38,18 @@ fn take<L, D: WorkDesk<L>, G: Gate>(alloc: Global, desk: &mut D, gate: &G) -> Re
     desk.take(alloc)
 }
 
-// Works an order and brings its result back, through the gate. Answers whether that came to pass.
+// Works an order and brings its result back, through the gate. Gives what was answered, unless there was no memory to work it.
 fn finish<L, D: WorkDesk<L>, G: Gate>(
     alloc: Global,
     layers: &L,
     desk: &mut D,
     gate: &G,
     order: &Order,
-) -> bool
-    ensures { BringsBack worker D.acts (G.told gate.now) (Deed.Finish order.now) result desk.old desk.new }
+) -> Option<Reply>
+    ensures { BringsBack D.acts (G.told gate.now) (Deed.Finish order.now) result desk.old desk.new }
 {
     gate.before(GateCall::Finish(order.token));
-    match desk.finish(alloc, layers, order) {
-        Ok(reply) => is_finished(&reply),
-        Err(_) => false,
-    }
+    desk.finish(alloc, layers, order).ok()
 }
 
 // Takes an order, works it and brings its result back. Answers whether all of this came to pass.
@@ -61,7 +58,7 @@ fn work<L, D: WorkDesk<L>, G: Gate>(alloc: Global, layers: &L, desk: &mut D, gat
 {
     let taken = take(alloc, desk, gate);
     match order_in(taken) {
-        Some(order) => finish(alloc, layers, desk, gate, &order),
+        Some(order) => is_finished(&finish(alloc, layers, desk, gate, &order)),
         None => false,
     }
 }

@@ -1,13 +1,3 @@
 use Rattle.std.proofs.Common.{refl}
-use Rattle.cat_desk.specs.Deed.Deed.{PutStitch}
-use Rattle.cat_workers.specs.Kinds.{stitcher}
 use Rattle.cat_workers.specs.declared.gate.GateCall.TheVariants as calls
-use Rattle.cat_workers.proofs.Rounding.{brought}
 use Rattle.cat_workers.proofs.stitch.put.Goals as goal
-
-pub returns-in-Ok : goal.returns-in-Ok
-returns-in-Ok g c =
-    let order = c.args.order.now in
-    brought g.D.WorkDesk.acts (g.G.Gate.told c.args.gate.now) stitcher (PutStitch order) c.is_placed.result c.args.desk.now c.put_stitch.new.self c.in-Ok.reply
-    (record { call = calls.StitchPut order.ticket; is_call = refl; was_told = c.before-2.ensures; does = c.in-Ok.ensures.ok })
-    c.is_placed.ensures

@@ -6,8 +6,8 @@ use Rattle.cat_workers.proofs.work.work.Goals as goal
 
 pub returns-in-Some : goal.returns-in-Some
 returns-in-Some g c =
-    taken g.D.WorkDesk.acts (g.G.Gate.told c.args.gate.now) worker 0 0 c.finish.result c.args.desk.now c.take-taken.new.desk c.finish.new.desk c.take-taken.result (Finish c.in-Some.order) c.take-taken.ensures
-    (ap (option_map Finish) (sym c.order_in.ensures ∙ c.in-Some.is)) refl c.finish.ensures
+    taken g.D.WorkDesk.acts (g.G.Gate.told c.args.gate.now) worker 0 0 c.is_finished.result c.args.desk.now c.take-taken.new.desk c.finish.new.desk c.take-taken.result (Finish c.in-Some.order) c.finish.result c.take-taken.ensures
+    (ap (option_map Finish) (sym c.order_in.ensures ∙ c.in-Some.is)) refl c.finish.ensures c.is_finished.ensures
 
 pub returns-in-None : goal.returns-in-None
 returns-in-None g c =

@@ -1,0 +1,3 @@
+pub mod Keeping
+pub mod Connected
+pub mod Journals
