@@ -16,5 +16,5 @@ mod disk;
 mod memory;
 mod replay;
 
-pub use disk::{Disk, DiskDone, DiskRead, MAX_LENGTH};
+pub use disk::{Disk, DiskDone, DiskRead, MAX_LENGTH, is_within};
 pub use memory::MemoryDisk;

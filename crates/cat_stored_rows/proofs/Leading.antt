@@ -42,7 +42,7 @@ second false b e = absurd (true≢false (sym e))
 -- ---- entries in an order
 
 -- the key is above each of these
-abbrev Above : {K V : Type 0} → (K → K → Ordering) → K → List (K × V) → Type 0
+abbrev pub Above : {K V : Type 0} → (K → K → Ordering) → K → List (K × V) → Type 0
 Above R k [] = ⊤
 Above R k (e ∷ es) = (R k e.0 ≡ Greater) × Above R k es
 
@@ -93,16 +93,16 @@ applied_last (d ∷ cs) c rows = applied_last cs c (changed d.0 d.1 rows)
 -- ---- what stands below what is left
 
 module _ {V X : Type 0} where
-  above_last : (es : List (RowKey × V)) (x : RowKey × X) (rest : List (RowKey × X)) → Precede es (x ∷ rest) → Above row_cmp x.0 es
+  pub above_last : (es : List (RowKey × V)) (x : RowKey × X) (rest : List (RowKey × X)) → Precede es (x ∷ rest) → Above row_cmp x.0 es
   above_last [] x rest h = tt
   above_last (e ∷ es) x rest h =
       (row_total.antisymm x.0 e.0 ∙ ap ordering_reverse (is_less (row_cmp e.0 x.0) (first _ _ h.0)), above_last es x rest h.1)
 
-  precede_rest : (es : List (RowKey × V)) (x : RowKey × X) (rest : List (RowKey × X)) → Precede es (x ∷ rest) → Precede es rest
+  pub precede_rest : (es : List (RowKey × V)) (x : RowKey × X) (rest : List (RowKey × X)) → Precede es (x ∷ rest) → Precede es rest
   precede_rest [] x rest h = tt
   precede_rest (e ∷ es) x rest h = (second _ _ h.0, precede_rest es x rest h.1)
 
-  precede_more : (es : List (RowKey × V)) (e : RowKey × V) (rest : List (RowKey × X)) → Precede es rest → below_all row_cmp e.0 rest ≡ true → Precede (es ++ e ∷ []) rest
+  pub precede_more : (es : List (RowKey × V)) (e : RowKey × V) (rest : List (RowKey × X)) → Precede es rest → below_all row_cmp e.0 rest ≡ true → Precede (es ++ e ∷ []) rest
   precede_more [] e rest h below = (below, tt)
   precede_more (d ∷ es) e rest h below = (h.0, precede_more es e rest h.1 below)
 

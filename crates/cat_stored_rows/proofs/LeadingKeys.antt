@@ -12,16 +12,18 @@ use Rattle.cat_keeper.specs.declared.rows.Change.{Change}
 use Rattle.cat_stored_rows.specs.Stored.{Stored, text_in, texts_of}
 use Rattle.cat_stored_rows.proofs.In.{found_map, none_some, same_some}
 use Rattle.cat_stored_rows.proofs.Leading.{row_antisymmetric, row_total, told_sorted}
-use Rattle.cat_stored_rows.specs.Differing.{AreSameBut, IsTurn, IsTurnedAt, is_among, text_after}
+use Rattle.cat_stored_rows.proofs.Needing.{one_needed}
+use Rattle.cat_stored_rows.specs.Differing.{AreNeeded, AreSameBut, IsTurn, IsTurnedAt, is_among, text_after}
 use Rattle.cat_stored_rows.proofs.Finding.{after, find-applied, same_key, sorted-applied}
 
--- Each change leaves what the new rows have at its key. Where there is none and the key isn't among those that are left, the rows are the same.
+-- Each change leaves what the new rows have at its key, and is needed. Where there is none and the key isn't among those that are left, the rows are the same.
 pub record Leads (old new : Stored) (left : List RowKey) (changes : Changes) : Type 0 where
   pub leaves : (k : RowKey) (c : Change) → find row_cmp k changes ≡ Some c → text_after c ≡ option_map text_in (find row_cmp k new)
   pub stays : (k : RowKey) → find row_cmp k changes ≡ None → is_among k left ≡ false → find row_cmp k new ≡ find row_cmp k old
+  pub needed : AreNeeded old new changes
 
 pub begins : (keys : List RowKey) (old new : Stored) → AreSameBut keys old new → Leads old new keys []
-begins keys old new same = record { leaves = λ k c e. absurd (none_some e); stays = λ k e apart. same k apart }
+begins keys old new same = record { leaves = λ k c e. absurd (none_some e); stays = λ k e apart. same k apart; needed = λ k e. refl }
 
 module _ (key : RowKey) (left : List RowKey) (old new : Stored) (b : Changes) (h : Leads old new (key ∷ left) b) where
   apart_from : (k : RowKey) → eq_by_cmp row_cmp k key ≡ false → is_among k left ≡ false → is_among k (key ∷ left) ≡ false
@@ -29,15 +31,16 @@ module _ (key : RowKey) (left : List RowKey) (old new : Stored) (b : Changes) (h
 
   -- the row at the key stays
   kept : find row_cmp key new ≡ find row_cmp key old → Leads old new left b
-  kept same = record { leaves = h.leaves; stays = λ k none apart. at k none apart (eq_by_cmp row_cmp k key) refl }
+  kept same = record { leaves = h.leaves; stays = λ k none apart. at k none apart (eq_by_cmp row_cmp k key) refl; needed = h.needed }
     where
       at : (k : RowKey) → find row_cmp k b ≡ None → is_among k left ≡ false → (t : Bool) → eq_by_cmp row_cmp k key ≡ t → find row_cmp k new ≡ find row_cmp k old
       at k none apart true e = subst (λ (j : RowKey). find row_cmp j new ≡ find row_cmp j old) (sym (same_key k key e)) same
       at k none apart false e = h.stays k none (apart_from k e apart)
 
   -- a change was put at the key
-  turned : (c : Change) → text_after c ≡ option_map text_in (find row_cmp key new) → Leads old new left (put row_cmp key c b)
-  turned c turn = record {
+  turned : (c : Change) → (find row_cmp key new ≡ find row_cmp key old → ⊥) → text_after c ≡ option_map text_in (find row_cmp key new) → Leads old new left (put row_cmp key c b)
+  turned c differ turn = record {
+    needed = one_needed old new b key c h.needed differ;
     leaves = λ k d e. leaves k d (eq_by_cmp row_cmp k key) refl (sym (find-put row_cmp row_total k key c b) ∙ e);
     stays = λ k none apart. stays k apart (eq_by_cmp row_cmp k key) refl (sym (find-put row_cmp row_total k key c b) ∙ none);
   }
@@ -52,7 +55,7 @@ module _ (key : RowKey) (left : List RowKey) (old new : Stored) (b : Changes) (h
 
   one_more : (change : Option Change) → IsTurn (find row_cmp key old) (find row_cmp key new) change → Leads old new left (put_some row_cmp key change b)
   one_more None same = kept same
-  one_more (Some c) turn = turned c turn
+  one_more (Some c) turn = turned c turn.0 turn.1
 
   -- the key was looked at
   pub goes_on : (after : Changes) → IsTurnedAt key old new b after → Leads old new left after

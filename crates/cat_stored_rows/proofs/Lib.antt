@@ -1,5 +1,6 @@
 pub mod In
 pub mod Leading
+pub mod Needing
 pub mod Putting
 pub mod Sames
 pub mod Telling

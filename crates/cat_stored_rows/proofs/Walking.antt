@@ -25,7 +25,7 @@ take_suc (y ∷ xs) (suc i) x h = ap (λ l. y ∷ l) (take_suc xs i x h)
 one_more : (i : ℕ) → suc i ≡ i + 1
 one_more i = omega arith
 
-take_get : {A : Type 0} (xs : List A) (i : ℕ) (x : A) → slice_get xs i ≡ Some x → take (i + 1) xs ≡ take i xs ++ x ∷ []
+pub take_get : {A : Type 0} (xs : List A) (i : ℕ) (x : A) → slice_get xs i ≡ Some x → take (i + 1) xs ≡ take i xs ++ x ∷ []
 take_get xs i x h = ap (λ n. take n xs) (sym (one_more i)) ∙ take_suc xs i x h
 
 pub turned_round : (k j : RowKey) → row_cmp k j ≡ Greater → row_cmp j k ≡ Less
@@ -50,7 +50,7 @@ module _ {X : Type 0} where
   sorted_drop (e ∷ rows) (suc i) h = sorted_drop rows i (second _ _ h)
 
   -- what is left behind a place stands above what stands there
-  rest_above : (rows : List (RowKey × X)) (i : ℕ) (e : RowKey × X) → IsTrue (is_sorted row_cmp rows) → slice_get rows i ≡ Some e → below_all row_cmp e.0 (drop (i + 1) rows) ≡ true
+  pub rest_above : (rows : List (RowKey × X)) (i : ℕ) (e : RowKey × X) → IsTrue (is_sorted row_cmp rows) → slice_get rows i ≡ Some e → below_all row_cmp e.0 (drop (i + 1) rows) ≡ true
   rest_above rows i e h at = first _ _ (ap (is_sorted row_cmp) (sym (drop_get rows i e at)) ∙ sorted_drop rows i h)
 
   -- a key below the one at a place stands below all that is left

@@ -1,5 +1,5 @@
 -- Rows that differ at given keys alone, and what leads from the one to the other at a key.
-use Rattle.std.specs.Prelude.{◌≡◌, Bool, false, List, option_map}
+use Rattle.std.specs.Prelude.{◌≡◌, ◌≢◌, Bool, false, List, option_map}
 use Rattle.std.specs.declared.option.Option.{Option}
 use Rattle.std.specs.declared.option.Option.TheVariants.{None, Some}
 use Rattle.std.specs.List.{list_any}
@@ -19,15 +19,19 @@ is_among k keys = list_any (eq_by_cmp row_cmp k) keys
 abbrev pub AreSameBut : List RowKey → Stored → Stored → Type 0
 AreSameBut keys old new = (k : RowKey) → is_among k keys ≡ false → find row_cmp k new ≡ find row_cmp k old
 
+-- no change stands at a key whose row stays as it is
+abbrev pub AreNeeded : {X : Type 0} → List (RowKey × X) → List (RowKey × X) → Changes → Type 0
+AreNeeded old new changes = (k : RowKey) → find row_cmp k new ≡ find row_cmp k old → find row_cmp k changes ≡ None
+
 -- the text that a change leaves at its key; none where the row is gone
 abbrev pub text_after : Change → Option Text
 text_after (Put text) = Some text
 text_after Gone = None
 
--- the change leaves the text of what is there now; without a change, that is what was there
+-- a change comes just where what is there now isn't what was there, and leaves its text
 abbrev pub IsTurn : Option StoredRow → Option StoredRow → Option Change → Type 0
 IsTurn was is None = is ≡ was
-IsTurn was is (Some change) = text_after change ≡ option_map text_in is
+IsTurn was is (Some change) = (is ≢ was) × (text_after change ≡ option_map text_in is)
 
 -- the changes after are those before with one put that leads from the old row at a key to the new one; or the same, where that row stays
 abbrev pub IsTurnedAt : RowKey → Stored → Stored → Changes → Changes → Type 0

@@ -3,6 +3,7 @@ use Rattle.std.specs.Prelude.{◌≡◌, true, List, [], ◌∷◌, ◌++◌, ta
 use Rattle.std.specs.FinMap.Entries.{below_all}
 use Rattle.cat_collections.specs.Table.{Text}
 use Rattle.cat_keeper.specs.Store.{RowKey, Rows, Changes, row_cmp, applied}
+use Rattle.cat_stored_rows.specs.Differing.{AreNeeded}
 use Rattle.cat_stored_rows.specs.declared.walk.Walk.{Walk}
 
 -- each row with what is told of it
@@ -23,6 +24,8 @@ pub record Leads {X : Type 0} (told : X → Text) (changes : Changes) (start : R
   pub passed_old : Precede passed old
   pub passed_new : Precede passed new
 
--- the walk has passed so many old and new rows, with such changes
-abbrev pub HasCome : {X : Type 0} → (X → Text) → List (RowKey × X) → List (RowKey × X) → Walk → Type 0
-HasCome told old new walk = Leads told walk.batch (told_all told old) (take walk.to new) (drop walk.from old) (drop walk.to new)
+-- the walk has passed so many old and new rows, with such changes, each of which is needed; and what was passed of the old rows stands below what is left of the new ones
+pub record HasCome {X : Type 0} (told : X → Text) (old new : List (RowKey × X)) (walk : Walk) : Type 0 where
+  pub leads : Leads told walk.batch (told_all told old) (take walk.to new) (drop walk.from old) (drop walk.to new)
+  pub needed : AreNeeded old new walk.batch
+  pub gone : Precede (take walk.from old) (drop walk.to new)

@@ -2,7 +2,7 @@
 ghost use Rattle.std.specs.Prelude.{◌≡◌, option_map, IfOk, OnOk};
 ghost use Rattle.cat_keeper.specs.Store.{applied};
 ghost use Rattle.cat_stored_rows.specs.Stored.{texts_of};
-ghost use Rattle.cat_stored_rows.specs.Differing.{AreSameBut, IsTurn, IsTurnedAt};
+ghost use Rattle.cat_stored_rows.specs.Differing.{AreNeeded, AreSameBut, IsTurn, IsTurnedAt};
 
 use crate::same::is_same_row;
 use crate::stored::Stored;
@@ -15,6 +15,17 @@ use cat_row_format::write::row_text;
 use cat_tree::text::Text;
 use std::alloc::{AllocError, Global};
 
+// What becomes of a row that was there and is there now; nothing where it stays as it was.
+fn amended(alloc: Global, was: &StoredRow, is: &StoredRow) -> Result<Option<Change>, AllocError>
+    ensures { IfOk result (IsTurn (Some was.now) (Some is.now)) }
+{
+    if is_same_row(was, is) {
+        Ok(None)
+    } else {
+        Ok(Some(Change::Put(row_text(alloc, is)?)))
+    }
+}
+
 // What becomes of a row that was there, if it was, and is there now, if it is; nothing where it stays as it was.
 fn turn(
     alloc: Global,
@@ -26,8 +37,8 @@ fn turn(
     match (was, is) {
         (None, None) => Ok(None),
         (Some(_), None) => Ok(Some(Change::Gone)),
-        (Some(was), Some(is)) if is_same_row(was, is) => Ok(None),
-        (_, Some(is)) => Ok(Some(Change::Put(row_text(alloc, is)?))),
+        (Some(was), Some(is)) => amended(alloc, was, is),
+        (None, Some(is)) => Ok(Some(Change::Put(row_text(alloc, is)?))),
     }
 }
 
@@ -48,8 +59,8 @@ fn change_at(
 }
 
 /// The changes that lead from the texts of some rows to those of others, which differ at most at these keys. Only those keys are
-/// looked up; rows that are equal give no change, and only rows that are new or differ are put into texts, where rows of the first
-/// version count as differing. A key may be given more than once. The error is want of memory.
+/// looked up; rows that are equal give no change, and only rows that are new or differ are put into texts. A key may be given more than once.
+/// The error is want of memory.
 pub fn batch_among(
     alloc: Global,
     keys: &[(Table, Text)],
@@ -57,7 +68,8 @@ pub fn batch_among(
     new: &Stored,
 ) -> Result<Batch, AllocError>
     requires { AreSameBut keys.now old.now new.now }
-    ensures { IfOk result (λ b. applied b (texts_of old.now) ≡ texts_of new.now) }
+    ensures leads { IfOk result (λ b. applied b (texts_of old.now) ≡ texts_of new.now) }
+    ensures needed { IfOk result (λ b. AreNeeded old.now new.now b) }
 {
     old.in_order();
     new.in_order();

@@ -7,8 +7,8 @@
 //! knows which rows an event may have changed: `among::batch_among` looks only at these.
 //!
 //! The promise: rows and texts are those of `specs/Stored.antt` and `specs/First.antt`, and a batch, applied to the rows that it was made from,
-//! gives exactly the rows that it was made for; that of `batch_among` whichever keys are given, in whichever order and however often, as long as
-//! the rows differ at no other key.
+//! gives exactly the rows that it was made for, and has no change of a row that stays as it is (`specs/Differing.antt` `AreNeeded`); that of `batch_among`
+//! whichever keys are given, in whichever order and however often, as long as the rows differ at no other key.
 //!
 //! The crate stands on cat_tree, cat_types, cat_collections and cat_model, whose states are stored, on cat_keeper for rows and batches, and on
 //! cat_row_format for what rows say.

@@ -1,5 +1,5 @@
 //! Whether rows are equal.
-ghost use Rattle.std.specs.Prelude.{◌≡◌, true};
+ghost use Rattle.std.specs.Prelude.{◌≡◌, ◌↔◌, IsTrue};
 
 use cat_collections::listing::Listing;
 use cat_row_format::row::{OrphanRule, StoredCounter, StoredOffer, StoredOutput, StoredRow};
@@ -10,20 +10,19 @@ use cat_types::reference::Ref;
 
 /// Whether the texts are equal.
 pub fn is_same_text(left: &str, right: &str) -> bool
-    ensures { result ≡ true → left.now ≡ right.now }
+    ensures { IsTrue result ↔ (left.now ≡ right.now) }
 {
     left == right
 }
 
-#[tactic(auto, using(crate::proofs::Sames::same_data))]
 fn is_same_node(left: &Node, right: &Node) -> bool
-    ensures { result ≡ true → left.now ≡ right.now }
+    ensures { IsTrue result ↔ (left.now ≡ right.now) }
 {
     left.same(right)
 }
 
 fn is_same_option(left: &Option<Node>, right: &Option<Node>) -> bool
-    ensures { result ≡ true → left.now ≡ right.now }
+    ensures { IsTrue result ↔ (left.now ≡ right.now) }
 {
     match (left, right) {
         (None, None) => true,
@@ -35,7 +34,7 @@ fn is_same_option(left: &Option<Node>, right: &Option<Node>) -> bool
 // What can be told apart.
 trait Same {
     fn is_like(&self, other: &Self) -> bool
-        ensures { result ≡ true → self.now ≡ other.now };
+        ensures { IsTrue result ↔ (self.now ≡ other.now) };
 }
 
 impl Same for Issue {
@@ -56,7 +55,7 @@ impl Same for StoredOffer {
 }
 
 fn are_like<X: Same>(left: &[X], right: &[X]) -> bool
-    ensures { result ≡ true → left.now ≡ right.now }
+    ensures { IsTrue result ↔ (left.now ≡ right.now) }
 {
     let mut others = right.iter();
     for item in left {
@@ -80,7 +79,7 @@ impl Same for StoredOutput {
 }
 
 fn is_same_output(left: &Option<StoredOutput>, right: &Option<StoredOutput>) -> bool
-    ensures { result ≡ true → left.now ≡ right.now }
+    ensures { IsTrue result ↔ (left.now ≡ right.now) }
 {
     match (left, right) {
         (None, None) => true,
@@ -90,7 +89,7 @@ fn is_same_output(left: &Option<StoredOutput>, right: &Option<StoredOutput>) -> 
 }
 
 fn is_counter(right: &StoredRow, counter: StoredCounter, next: u64) -> bool
-    ensures { result ≡ true → StoredRow.Counter counter next ≡ right.now }
+    ensures { IsTrue result ↔ (StoredRow.Counter counter next ≡ right.now) }
 {
     match right {
         StoredRow::Counter(other, n) => counter == *other && next == *n,
@@ -99,7 +98,7 @@ fn is_counter(right: &StoredRow, counter: StoredCounter, next: u64) -> bool
 }
 
 fn is_provider(right: &StoredRow, name: &Text, serial: u64) -> bool
-    ensures { result ≡ true → StoredRow.Provider name.now serial ≡ right.now }
+    ensures { IsTrue result ↔ (StoredRow.Provider name.now serial ≡ right.now) }
 {
     match right {
         StoredRow::Provider {
@@ -111,7 +110,7 @@ fn is_provider(right: &StoredRow, name: &Text, serial: u64) -> bool
 }
 
 fn is_item(right: &StoredRow, provider: &Text, reference: &Ref, arrival: u64, key: &Text) -> bool
-    ensures { result ≡ true → StoredRow.Item provider.now reference.now arrival key.now ≡ right.now }
+    ensures { IsTrue result ↔ (StoredRow.Item provider.now reference.now arrival key.now ≡ right.now) }
 {
     match right {
         StoredRow::Item {
@@ -129,8 +128,36 @@ fn is_item(right: &StoredRow, provider: &Text, reference: &Ref, arrival: u64, ke
     }
 }
 
+fn is_item_one(
+    right: &StoredRow,
+    provider: &Text,
+    reference: &Ref,
+    arrival: u64,
+    key: &Text,
+    tree: &Node,
+) -> bool
+    ensures { IsTrue result ↔ (StoredRow.ItemOne provider.now reference.now arrival key.now tree.now ≡ right.now) }
+{
+    match right {
+        StoredRow::ItemOne {
+            provider: p,
+            reference: r,
+            arrival: n,
+            key: k,
+            tree: t,
+        } => {
+            arrival == *n
+                && is_same_text(provider.as_str(), p.as_str())
+                && is_same_text(reference.as_str(), r.as_str())
+                && is_same_text(key.as_str(), k.as_str())
+                && is_same_node(tree, t)
+        }
+        _ => false,
+    }
+}
+
 fn is_shelf(right: &StoredRow, name: &Text, body: &Text) -> bool
-    ensures { result ≡ true → StoredRow.Shelf name.now body.now ≡ right.now }
+    ensures { IsTrue result ↔ (StoredRow.Shelf name.now body.now ≡ right.now) }
 {
     match right {
         StoredRow::Shelf { name: n, body: b } => {
@@ -148,7 +175,7 @@ fn is_record(
     number: u64,
     output: &Option<StoredOutput>,
 ) -> bool
-    ensures { result ≡ true → StoredRow.Record reference.now holder issues.now number output.now ≡ right.now }
+    ensures { IsTrue result ↔ (StoredRow.Record reference.now holder issues.now number output.now ≡ right.now) }
 {
     match right {
         StoredRow::Record {
@@ -168,8 +195,36 @@ fn is_record(
     }
 }
 
+fn is_record_one(
+    right: &StoredRow,
+    reference: &Ref,
+    holder: u64,
+    issues: &Listing<Issue>,
+    number: u64,
+    output: &StoredOutput,
+) -> bool
+    ensures { IsTrue result ↔ (StoredRow.RecordOne reference.now holder issues.now number output.now ≡ right.now) }
+{
+    match right {
+        StoredRow::RecordOne {
+            reference: r,
+            holder: h,
+            issues: i,
+            number: n,
+            output: o,
+        } => {
+            holder == *h
+                && number == *n
+                && is_same_text(reference.as_str(), r.as_str())
+                && are_like(issues.as_slice(), i.as_slice())
+                && output.is_like(o)
+        }
+        _ => false,
+    }
+}
+
 fn is_orphan(right: &StoredRow, reference: &Ref, entity: &Node, number: u64) -> bool
-    ensures { result ≡ true → StoredRow.Orphan reference.now entity.now number ≡ right.now }
+    ensures { IsTrue result ↔ (StoredRow.Orphan reference.now entity.now number ≡ right.now) }
 {
     match right {
         StoredRow::Orphan {
@@ -184,7 +239,7 @@ fn is_orphan(right: &StoredRow, reference: &Ref, entity: &Node, number: u64) -> 
 }
 
 fn is_rule(right: &StoredRow, rule: OrphanRule) -> bool
-    ensures { result ≡ true → StoredRow.Settings rule ≡ right.now }
+    ensures { IsTrue result ↔ (StoredRow.Settings rule ≡ right.now) }
 {
     match right {
         StoredRow::Settings(other) => rule == *other,
@@ -193,7 +248,7 @@ fn is_rule(right: &StoredRow, rule: OrphanRule) -> bool
 }
 
 fn is_tree(right: &StoredRow, arrival: u64, tree: &Node) -> bool
-    ensures { result ≡ true → StoredRow.Tree arrival tree.now ≡ right.now }
+    ensures { IsTrue result ↔ (StoredRow.Tree arrival tree.now ≡ right.now) }
 {
     match right {
         StoredRow::Tree {
@@ -204,10 +259,9 @@ fn is_tree(right: &StoredRow, arrival: u64, tree: &Node) -> bool
     }
 }
 
-/// Whether the rows are equal: of one form, with the same names, numbers, texts and trees. Rows of the first version count as
-/// unequal.
+/// Whether the rows are equal: of one form, with the same names, numbers, texts and trees.
 pub fn is_same_row(left: &StoredRow, right: &StoredRow) -> bool
-    ensures { result ≡ true → left.now ≡ right.now }
+    ensures { IsTrue result ↔ (left.now ≡ right.now) }
 {
     match left {
         StoredRow::Counter(counter, next) => is_counter(right, *counter, *next),
@@ -233,6 +287,19 @@ pub fn is_same_row(left: &StoredRow, right: &StoredRow) -> bool
         } => is_orphan(right, reference, entity, *number),
         StoredRow::Settings(rule) => is_rule(right, *rule),
         StoredRow::Tree { arrival, tree } => is_tree(right, *arrival, tree),
-        StoredRow::ItemOne { .. } | StoredRow::RecordOne { .. } => false,
+        StoredRow::ItemOne {
+            provider,
+            reference,
+            arrival,
+            key,
+            tree,
+        } => is_item_one(right, provider, reference, *arrival, key, tree),
+        StoredRow::RecordOne {
+            reference,
+            holder,
+            issues,
+            number,
+            output,
+        } => is_record_one(right, reference, *holder, issues, *number, output),
     }
 }

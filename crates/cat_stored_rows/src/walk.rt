@@ -1,7 +1,8 @@
 //! A walk over old and new rows at once, in order of their keys.
-ghost use Rattle.std.specs.Prelude.{◌≡◌, ◌+◌, ◌-◌, ◌<◌, true, false, drop, slice_get, length, Some, None, IfOk, OnOk, if◌then◌else◌};
+ghost use Rattle.std.specs.Prelude.{◌≡◌, ◌+◌, ◌-◌, ◌<◌, ◌≢◌, ◌↔◌, IsTrue, true, false, drop, slice_get, length, Some, None, IfOk, OnOk, if◌then◌else◌};
 ghost use Rattle.std.specs.FinMap.Entries.{below_all};
 ghost use Rattle.cat_keeper.specs.Store.{applied, row_cmp};
+ghost use Rattle.cat_stored_rows.specs.Differing.{AreNeeded};
 ghost use Rattle.cat_stored_rows.specs.Stored.{text_in};
 ghost use Rattle.cat_stored_rows.specs.Walk.{HasCome, told_all};
 
@@ -23,9 +24,9 @@ pub trait Told {
 
     ghost told: { Self → Text };
 
-    /// Whether both are equal, and so their texts.
+    /// Whether both are equal.
     fn is_same(&self, other: &Self) -> bool
-        ensures { result ≡ true → told self.now ≡ told other.now };
+        ensures { IsTrue result ↔ (self.now ≡ other.now) };
 
     /// The text.
     fn text(&self, alloc: Global) -> Result<Text, AllocError>
@@ -123,7 +124,7 @@ fn keep<X: Told>(
     requires from { slice_get old.now walk.old.from ≡ Some was.now }
     requires to { slice_get new.now walk.old.to ≡ Some is.now }
     requires key { was.now.0 ≡ is.now.0 }
-    requires same { X.told was.now.1 ≡ X.told is.now.1 }
+    requires same { was.now.1 ≡ is.now.1 }
     ensures come { HasCome X.told old.now new.now walk.new }
     ensures from { walk.new.from ≡ walk.old.from + 1 }
     ensures to { walk.new.to ≡ walk.old.to + 1 }
@@ -135,7 +136,7 @@ fn keep<X: Told>(
     walk.to += 1;
 }
 
-// Passes an old and a new row of one key that may differ.
+// Passes an old and a new row of one key that differ.
 fn turn<X: Told>(
     alloc: Global,
     old: &Map<(Table, Text), X>,
@@ -148,6 +149,7 @@ fn turn<X: Told>(
     requires from { slice_get old.now walk.old.from ≡ Some was.now }
     requires to { slice_get new.now walk.old.to ≡ Some is.now }
     requires key { was.now.0 ≡ is.now.0 }
+    requires differ { was.now.1 ≢ is.now.1 }
     ensures come { OnOk result (HasCome X.told old.now new.now walk.new) }
     ensures from { OnOk result (walk.new.from ≡ walk.old.from + 1) }
     ensures to { OnOk result (walk.new.to ≡ walk.old.to + 1) }
@@ -204,7 +206,8 @@ pub fn changes<X: Told>(
     old: &Map<(Table, Text), X>,
     new: &Map<(Table, Text), X>,
 ) -> Result<Batch, AllocError>
-    ensures { IfOk result (λ b. applied b (told_all X.told old.now) ≡ told_all X.told new.now) }
+    ensures leads { IfOk result (λ b. applied b (told_all X.told old.now) ≡ told_all X.told new.now) }
+    ensures needed { IfOk result (λ b. AreNeeded old.now new.now b) }
 {
     let mut walk = Walk {
         from: 0,

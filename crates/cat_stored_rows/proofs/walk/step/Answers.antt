@@ -5,7 +5,7 @@ use Rattle.cat_stored_rows.proofs.walk.step.Goals as goal
 pub returns-in-None-None-clause-end : goal.returns-in-None-None-clause-end
 returns-in-None-None-clause-end g c =
     let walk = c.args.walk.now in
-    λ _. arrived g.X.Told.told c.args.old.now c.args.new.now walk.from walk.to walk.batch walk.batch c.requires (sym c.in-None-None.ensures) (sym c.in-None-None.ensures')
+    λ _. arrived g.X.Told.told c.args.old.now c.args.new.now walk.from walk.to walk.batch walk.batch c.requires.leads (sym c.in-None-None.ensures) (sym c.in-None-None.ensures')
 
 pub enter-requires-clause-above : goal.enter-requires-clause-above
 enter-requires-clause-above g c = none_above c.args.old.now c.args.walk.now.from c.in-None-Some.is'.now.0 (sym c.in-None-Some.ensures)
