@@ -9,7 +9,7 @@ from unittest import mock
 
 from .support import COUNT, Served, as_backstage_has_it, backstage, component, descriptor, group, run
 
-from wirgatsu.backstage import Backstage, default_provider, read_backstage
+from wirgatsu.backstage import Backstage, default_provider, left_out_by_kind, read_backstage
 
 
 def organisation(count: int) -> List[Dict[str, Any]]:
@@ -44,6 +44,7 @@ class Reading(unittest.TestCase):
             "component:default/fraction: spec.version is 1.5, and the catalogue holds no fractions (quote it, or give --numbers-as-text)",
             "component:default/noowner: spec.owner must be a text that isn't empty",
             "component:default/big: spec.size is a number beyond 64 bits"])
+        self.assertEqual(left_out_by_kind(reading), "Left out: 3 of kind component, 1 of kind template.")
         self.assertIn(b'"presence":"optional"', reading.entities["location:default/l"].body)
         self.assertEqual(len(self.read(entities, numbers_as_text=True, skipped=["Template"]).problems), 2)
 

@@ -4,6 +4,7 @@ from __future__ import annotations
 
 import json
 import re
+from collections import Counter
 from typing import Any, Callable, Dict, FrozenSet, Iterator, Optional
 from urllib.parse import urlsplit
 
@@ -108,3 +109,10 @@ def _take(reading: Reading, document: Any, provider: str, numbers_as_text: bool,
 def _name(document: Dict[str, Any]) -> str:
     metadata = document["metadata"]
     return f"{str(document.get('kind', '?')).lower()}:{metadata.get('namespace', 'default')}/{metadata.get('name', '?')}"
+
+
+def left_out_by_kind(reading: Reading) -> str:
+    """How many entities of each kind were left out, in one sentence; nothing where none was."""
+    sources = {problem.place.source for problem in reading.problems}
+    counts = sorted(Counter(source.partition(":")[0] for source in sources).items())
+    return f"Left out: {', '.join(f'{count:,} of kind {kind}' for kind, count in counts)}." if counts else ""

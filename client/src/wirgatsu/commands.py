@@ -7,7 +7,7 @@ import os
 from typing import Callable, Dict, Optional
 
 from . import push, show
-from .backstage import Backstage, default_provider, read_backstage
+from .backstage import Backstage, default_provider, left_out_by_kind, read_backstage
 from .errors import OK, REFUSED, ClientError, WordsError
 from .export import export
 from .finding import USUAL_NAMES, Finder
@@ -76,6 +76,8 @@ def import_command(arguments: argparse.Namespace) -> int:
         with Backstage(arguments.url, token) as backstage:
             reading = read_backstage(backstage, provider, arguments.numbers_as_text, frozenset(arguments.skip_kind), step)
     _print_reading(reading)
+    if reading.problems:
+        say(left_out_by_kind(reading))
     with _server(arguments) as server:
         return Push(server, reading, options).run()
 
