@@ -1,14 +1,15 @@
 -- How long the replies to commands are.
 use Rattle.std.proofs.Common.{◌≡◌, ℕ, ◌+◌, ◌^◌, ◌<◌, ◌≤◌, Bool, true, false, List, [], ◌∷◌, ◌++◌, length, length-append, refl, sym, subst, arith, codes}
-use Rattle.std.specs.Prelude.{IfOk, Result, Ok, Err, IsTrue, if◌then◌else◌, ◌==◌, ◌||◌}
+use Rattle.std.specs.Prelude.{IfOk, Result, Ok, Err, not, if◌then◌else◌, ◌||◌}
 use Rattle.std.specs.Fmt.{decimal}
-use Rattle.std.proofs.Common.{inl, inr}
-use Rattle.std.proofs.lemmas.Bool.Decides.{eqb_tells}
 use Rattle.std.proofs.lemmas.Fmt.{length-decimal-le}
 use Rattle.cat_feed.specs.Place.{since_text}
 use Rattle.cat_feed.specs.declared.change.Since.{Since}
 use Rattle.cat_http.specs.Errors.{error_body}
-use Rattle.cat_http.specs.Reply.{is_named, phrase_of, status_line, content_lines, allow_line, close_line, end_of, reply_bytes}
+use Rattle.cat_http.specs.Status.{code, phrase, has_content, has_methods}
+use Rattle.cat_http.specs.declared.status.Status.{Status}
+use Rattle.cat_http.specs.declared.status.Status.TheVariants as status
+use Rattle.cat_http.specs.Reply.{status_line, content_lines, allow_line, close_line, end_of, reply_bytes}
 use Rattle.cat_http.specs.declared.message.Message.{Message}
 use Rattle.cat_http.specs.declared.reply.HttpReply.{HttpReply}
 use Rattle.cat_model.specs.declared.types.Acted.{Acted}
@@ -31,11 +32,28 @@ short_decimal n h = length-decimal-le 20 n (omega arith) (omega (arith, h)) h
 
 -- ---- bodies
 
-error_short : (status : ℕ) (words : List ℕ) → status < 2 ^ 64 → length words ≤ 60 → length (error_body status words) ≤ 160
-error_short status words s w =
-    let d = short_decimal status s in
-    let rest = decimal status ++ codes "}}" in
-    let a = length-append (decimal status) (codes "}}") in
+code_small : (status : Status) → code status < 2 ^ 64
+code_small status.Ok = omega arith
+code_small status.NoContent = omega arith
+code_small status.BadRequest = omega arith
+code_small status.Unauthorized = omega arith
+code_small status.Forbidden = omega arith
+code_small status.NotFound = omega arith
+code_small status.MethodNotAllowed = omega arith
+code_small status.Conflict = omega arith
+code_small status.Gone = omega arith
+code_small status.PayloadTooLarge = omega arith
+code_small status.RequestHeaderFieldsTooLarge = omega arith
+code_small status.InternalServerError = omega arith
+code_small status.NotImplemented = omega arith
+code_small status.ServiceUnavailable = omega arith
+code_small status.InsufficientStorage = omega arith
+
+error_short : (s : Status) (words : List ℕ) → length words ≤ 60 → length (error_body s words) ≤ 160
+error_short s words w =
+    let d = short_decimal (code s) (code_small s) in
+    let rest = decimal (code s) ++ codes "}}" in
+    let a = length-append (decimal (code s)) (codes "}}") in
     let b = length-append (codes "\"},\"response\":{\"statusCode\":") rest in
     let c = length-append words (codes "\"},\"response\":{\"statusCode\":" ++ rest) in
     let e = length-append (codes "{\"error\":{\"message\":\"") (words ++ (codes "\"},\"response\":{\"statusCode\":" ++ rest)) in
@@ -100,31 +118,6 @@ words_short refusal.Reply s n = omega arith
 words_short refusal.Keeper s n = omega arith
 words_short refusal.NoMemory s n = omega arith
 
-status_small : (r : Refusal) → status_of r < 2 ^ 64
-status_small refusal.Route = omega arith
-status_small (refusal.Method ms) = omega arith
-status_small refusal.Entity = omega arith
-status_small refusal.Shelf = omega arith
-status_small refusal.Name = omega arith
-status_small refusal.Text = omega arith
-status_small (refusal.Reference i) = omega arith
-status_small (refusal.Input fault) = omega arith
-status_small (refusal.Query fault) = omega arith
-status_small refusal.Facet = omega arith
-status_small refusal.Place = omega arith
-status_small (refusal.Gone place) = omega arith
-status_small (refusal.Ahead place) = omega arith
-status_small (refusal.OldSerial last) = omega arith
-status_small (refusal.TooLarge sum) = omega arith
-status_small (refusal.Spent counter) = omega arith
-status_small (refusal.CutByCounter events counter) = omega arith
-status_small (refusal.CutByMemory events) = omega arith
-status_small (refusal.CutByKeeper events) = omega arith
-status_small refusal.SpentFeed = omega arith
-status_small refusal.Reply = omega arith
-status_small refusal.Keeper = omega arith
-status_small refusal.NoMemory = omega arith
-
 counts_short : (n : Counts) → AreNumbers n → length (counts_body n) ≤ 160
 counts_short n h =
     let e = codes "}" ++ [] in
@@ -156,7 +149,7 @@ body_short (Mutated acted) s n = acted_short acted
 body_short Done s n = omega arith
 body_short Refreshed s n = omega arith
 body_short (Settled counts) s n = counts_short counts n
-body_short (Refused r) s n = error_short (status_of r) (joined (words_of r)) (status_small r) (words_short r s n)
+body_short (Refused r) s n = error_short (status_of r) (joined (words_of r)) (words_short r s n)
 
 allows_none : (r : Refusal) → IsShortRefusal r → allowed r ≡ []
 allows_none refusal.Route s = refl
@@ -197,33 +190,49 @@ brief m a r s n is = subst IsBrief (sym is) (body_short a s n, tells_none a s)
 
 -- ---- the whole reply
 
-first_or_rest : (P : ℕ → Type 0) (x s : ℕ) (rest : Bool) → P x → (IsTrue rest → P s) → IsTrue (x == s || rest) → P s
-first_or_rest P x s rest here more h =
-    elim (eqb_tells x s) [
-      | inl e ↦ subst P e.1 here
-      | inr e ↦ more (subst (λ t. IsTrue (t || rest)) e.0 h)
-    ]
+phrase_short : (s : Status) → length (phrase s) ≤ 31
+phrase_short status.Ok = omega arith
+phrase_short status.NoContent = omega arith
+phrase_short status.BadRequest = omega arith
+phrase_short status.Unauthorized = omega arith
+phrase_short status.Forbidden = omega arith
+phrase_short status.NotFound = omega arith
+phrase_short status.MethodNotAllowed = omega arith
+phrase_short status.Conflict = omega arith
+phrase_short status.Gone = omega arith
+phrase_short status.PayloadTooLarge = omega arith
+phrase_short status.RequestHeaderFieldsTooLarge = omega arith
+phrase_short status.InternalServerError = omega arith
+phrase_short status.NotImplemented = omega arith
+phrase_short status.ServiceUnavailable = omega arith
+phrase_short status.InsufficientStorage = omega arith
 
-line_short : (s : ℕ) → IsTrue (is_named s) → length (status_line s) ≤ 64
-unfolding phrase_of
-line_short s named =
-    let P : ℕ → Type 0 = λ n. length (status_line n) ≤ 64 in
-    first_or_rest P 200 s _ (omega arith) (λ h. first_or_rest P 204 s _ (omega arith) (λ h. first_or_rest P 400 s _ (omega arith) (λ h.
-    first_or_rest P 404 s _ (omega arith) (λ h. first_or_rest P 405 s _ (omega arith) (λ h. first_or_rest P 409 s _ (omega arith) (λ h.
-    first_or_rest P 410 s _ (omega arith) (λ h. first_or_rest P 413 s _ (omega arith) (λ h. first_or_rest P 431 s _ (omega arith) (λ h. first_or_rest P 500 s _ (omega arith) (λ h.
-    first_or_rest P 501 s _ (omega arith) (λ h. first_or_rest P 503 s _ (omega arith) (λ h. first_or_rest P 507 s false (omega arith) (λ h. cc) h) h) h) h) h) h) h) h) h) h) h) h) named
+line_short : (s : Status) → length (status_line s) ≤ 64
+line_short s =
+    let c = phrase s ++ codes "\r\n" in
+    let b = codes " " ++ c in
+    let a = decimal (code s) ++ b in
+    omega (
+      arith,
+      length-append (codes "HTTP/1.1 ") a,
+      length-append (decimal (code s)) b,
+      length-append (codes " ") c,
+      length-append (phrase s) (codes "\r\n"),
+      short_decimal (code s) (code_small s),
+      phrase_short s,
+    )
 
-content_short : (s : ℕ) (body : List ℕ) → length body < 2 ^ 64 → length (content_lines s body) ≤ 80
+content_short : (s : Status) (body : List ℕ) → length body < 2 ^ 64 → length (content_lines s body) ≤ 80
 content_short s body h =
     let n = decimal (length body) in
-    let M : Bool → Type 0 = λ t. length (if t then [] else codes "Content-Type: application/json\r\nContent-Length: " ++ (n ++ codes "\r\n")) ≤ 80 in
-    elim (s == 204) as M [
-      | true ↦ omega arith
-      | false ↦ omega (arith, length-append (codes "Content-Type: application/json\r\nContent-Length: ") (n ++ codes "\r\n"), length-append n (codes "\r\n"), short_decimal (length body) h)
+    let M : Bool → Type 0 = λ t. length (if t then codes "Content-Type: application/json\r\nContent-Length: " ++ (n ++ codes "\r\n") else []) ≤ 80 in
+    elim (has_content s) as M [
+      | false ↦ omega arith
+      | true ↦ omega (arith, length-append (codes "Content-Type: application/json\r\nContent-Length: ") (n ++ codes "\r\n"), length-append n (codes "\r\n"), short_decimal (length body) h)
     ]
 
-allow_short : (s : ℕ) → length (allow_line s []) ≤ 9
-allow_short s = elim (s == 405) as (λ t. length (if t then codes "Allow: " ++ ([] ++ codes "\r\n") else []) ≤ 9) [ true ↦ omega arith | false ↦ omega arith ]
+allow_short : (s : Status) → length (allow_line s []) ≤ 9
+allow_short s = elim (has_methods s) as (λ t. length (if t then codes "Allow: " ++ ([] ++ codes "\r\n") else []) ≤ 9) [ true ↦ omega arith | false ↦ omega arith ]
 
 close_short : (c : Bool) → length (close_line c) ≤ 20
 close_short true = omega arith
@@ -231,14 +240,14 @@ close_short false = omega arith
 
 end_short : (r : HttpReply) → length (end_of r) ≤ 2 + length r.body
 end_short r =
-    elim (r.bare || r.status == 204) as (λ t. length (codes "\r\n" ++ (if t then [] else r.body)) ≤ 2 + length r.body) [
+    elim (r.bare || not (has_content r.status)) as (λ t. length (codes "\r\n" ++ (if t then [] else r.body)) ≤ 2 + length r.body) [
       | true ↦ omega arith
       | false ↦ omega (arith, length-append (codes "\r\n") r.body)
     ]
 
 -- a brief reply fits the room that is taken for it
-pub reply_short : (r : HttpReply) → IsTrue (is_named r.status) → IsBrief r → length (reply_bytes r) ≤ 512
-reply_short r named b =
+pub reply_short : (r : HttpReply) → IsBrief r → length (reply_bytes r) ≤ 512
+reply_short r b =
     let z = close_line r.close ++ end_of r in
     let y = allow_line r.status r.allow ++ z in
     let x = content_lines r.status r.body ++ y in
@@ -249,7 +258,7 @@ reply_short r named b =
       length-append (content_lines r.status r.body) y,
       length-append (allow_line r.status r.allow) z,
       length-append (close_line r.close) (end_of r),
-      line_short r.status named,
+      line_short r.status,
       content_short r.status r.body (omega (arith, b.0)),
       none,
       close_short r.close,

@@ -1,5 +1,5 @@
 pub mod Said
 pub mod Serving
 pub mod Lacking
-pub mod Naming
+pub mod Always
 pub mod Brevity

@@ -1,12 +1,11 @@
 //! The answer to one message.
-ghost use Rattle.std.specs.Prelude.{◌≡◌, ◌≢◌, IfOk, OnOk, OnErr, IsErr, IsTrue};
+ghost use Rattle.std.specs.Prelude.{◌≡◌, ◌≢◌, IfOk, OnOk, OnErr, IsErr};
 ghost use Rattle.cat_api.specs.Answering.{ActsBy, Answers, AsksBy, Carries, Lacks, LacksIn, TellsBy};
 ghost use Rattle.cat_api.specs.Deeds as deeds;
 ghost use Rattle.cat_api.specs.Operations.{operation};
 ghost use Rattle.cat_api.specs.Operations.Operation.{Act, Ask as AskOf, Tell};
 ghost use Rattle.cat_api.specs.Room.{IsBrief, IsBriefBy, IsBriefTo};
 ghost use Rattle.cat_desk.specs.Deed.{deed};
-ghost use Rattle.cat_http.specs.Reply.{is_named};
 ghost use Rattle.cat_requests.specs.Answers as spec;
 ghost use Rattle.cat_requests.specs.Requests.{request_of as asked_for};
 
@@ -23,6 +22,7 @@ use cat_query::ask::Ask;
 use cat_requests::answer::{Answer, ROOM, reply_to};
 use cat_requests::refusal::Refusal;
 use cat_requests::request::{Request, request_of};
+use cat_requests::routes::Routes;
 use std::alloc::{AllocError, Global};
 
 // Gives a command to the desk. The room for the reply is taken first.
@@ -141,15 +141,15 @@ fn refused(alloc: Global, message: &Message, refusal: Refusal) -> Result<HttpRep
 /// changes may have been answered by the desk, whose feed then took the documents in.
 pub fn answer<F: Drop, S: Drop, D: FeedDesk<F, S>>(
     alloc: Global,
+    routes: &Routes,
     desk: &mut D,
     message: &Message,
 ) -> Result<HttpReply, AllocError>
     ensures ok { IfOk result (λ r. Answers D.acts D.asks D.tells desk.old desk.new (asked_for message.now) message.now r) }
-    ensures named { IfOk result (λ r. IsTrue (is_named r.status)) }
     ensures brief { IfOk result (IsBriefBy (asked_for message.now)) }
     ensures err { OnErr result (Lacks D.acts D.asks D.tells desk.old desk.new (asked_for message.now)) }
 {
-    match request_of(alloc, message) {
+    match request_of(alloc, routes, message) {
         Ok(request) => carry_out(alloc, desk, request, message),
         Err(refusal) => refused(alloc, message, refusal),
     }

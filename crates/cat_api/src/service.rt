@@ -1,13 +1,15 @@
 //! A desk that answers the messages of a connection.
 ghost use Rattle.std.specs.Prelude.{◌≡◌, IfOk, OnErr};
-ghost use Rattle.cat_api.specs.Answering.{AnswersBytes, Lacks};
+ghost use Rattle.cat_api.specs.Answering.{Answers, AnswersBytes, Lacks};
+ghost use Rattle.cat_api.specs.Room.{IsBriefBy};
 ghost use Rattle.cat_requests.specs.Requests.{request_of};
 
 use crate::answer::answer;
 use cat_connection::Machine;
 use cat_desk::feed_desk::FeedDesk;
 use cat_http::message::Message;
-use cat_http::reply::write_reply;
+use cat_http::reply::{HttpReply, write_reply};
+use cat_requests::routes::Routes;
 use std::alloc::{AllocError, Global};
 use std::marker::PhantomData;
 
@@ -20,6 +22,8 @@ const REPLY: usize = 512;
 pub struct Service<F, S, D> {
     alloc: Global,
     desk: D,
+    // Laid out at the first message.
+    routes: Option<Routes>,
     results: PhantomData<F>,
     documents: PhantomData<S>,
 }
@@ -32,6 +36,7 @@ impl<F: Drop, S: Drop, D: FeedDesk<F, S>> Service<F, S, D> {
         Service {
             alloc,
             desk,
+            routes: None,
             results: PhantomData,
             documents: PhantomData,
         }
@@ -44,13 +49,35 @@ impl<F: Drop, S: Drop, D: FeedDesk<F, S>> Service<F, S, D> {
         self.desk
     }
 
+    // The routes, taken out of the service.
+    fn take_routes(&mut self) -> Result<Routes, AllocError>
+        ensures { self.new.desk ≡ self.old.desk }
+    {
+        match self.routes.take() {
+            Some(routes) => Ok(routes),
+            None => Routes::new(self.alloc),
+        }
+    }
+
+    // The reply to a message.
+    fn reply_of(&mut self, message: &Message) -> Result<HttpReply, AllocError>
+        ensures ok { IfOk result (λ r. Answers D.acts D.asks D.tells self.old.desk self.new.desk (request_of message.now) message.now r) }
+        ensures brief { IfOk result (IsBriefBy (request_of message.now)) }
+        ensures err { OnErr result (Lacks D.acts D.asks D.tells self.old.desk self.new.desk (request_of message.now)) }
+    {
+        let routes = self.take_routes()?;
+        let reply = answer::<F, S, D>(self.alloc, &routes, &mut self.desk, message);
+        self.routes = Some(routes);
+        reply
+    }
+
     // Answers a message with the bytes of the reply.
     fn answer_message(&mut self, message: &Message) -> Result<Vec<u8>, AllocError>
         ensures ok { IfOk result (λ text. AnswersBytes D.acts D.asks D.tells self.old.desk message.now self.new.desk text.items) }
         ensures err { OnErr result (Lacks D.acts D.asks D.tells self.old.desk self.new.desk (request_of message.now)) }
     {
         let mut out = Vec::with_capacity(self.alloc, REPLY)?;
-        let reply = answer::<F, S, D>(self.alloc, &mut self.desk, message)?;
+        let reply = self.reply_of(message)?;
         write_reply(&reply, &mut out)?;
         Ok(out)
     }

@@ -16,6 +16,7 @@ use Rattle.cat_api.specs.contracts.service.Service as Service
 use Rattle.cat_dispatcher.specs.contracts.answering.Answering as Answering
 use Rattle.cat_dispatcher.specs.contracts.share.Share as Share
 use Rattle.cat_dispatcher.specs.contracts.working.Working as Working
+use Rattle.cat_requests.proofs.SentRoutes.{routes_send}
 use Rattle.cat_shared.proofs.SentBooks.{book_send, order_sync, shared_send, stitch_order_sync}
 use Rattle.cat_shared.proofs.SentStates.{known, output_send}
 
@@ -24,7 +25,7 @@ outcome_send = variants_send Outcome.enum ((output_send, (search known depth 60,
 
 module _ (F S D : RattleType) where
   service_send : IsSend F → IsSend S → IsSend D → IsSend (Service.the_row F S D)
-  service_send f s d = declared_send (Service.the_type F S D) (search known depth 60, (search (d, known) depth 20, (search (f, known) depth 20, (search (s, known) depth 20, tt))))
+  service_send f s d = declared_send (Service.the_type F S D) (search known depth 60, (search (d, known) depth 20, (search (routes_send, known) depth 60, (search (f, known) depth 20, (search (s, known) depth 20, tt)))))
 
 module _ (a b : NamedLft) (L B N R : RattleType) (layers : Layers.Ghosts L.Denot) (timed : TimedDesk.Ghosts B.Denot L.Denot) (named : Named.Ghosts N.Denot)
     (l : IsSend L) (d : IsSend B) (n : IsSend N) (r : IsSync R) where

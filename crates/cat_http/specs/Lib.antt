@@ -1,5 +1,6 @@
 pub mod Lines
 pub mod Head
+pub mod Status
 pub mod Message
 pub mod Reply
 pub mod Errors

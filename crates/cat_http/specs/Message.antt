@@ -7,17 +7,24 @@ use Rattle.cat_http.specs.declared.message.Next.{Next}
 use Rattle.cat_http.specs.declared.message.Next.TheVariants.{Whole, More, Refused}
 use Rattle.cat_http.specs.declared.message.Rule.{Rule}
 use Rattle.cat_http.specs.declared.message.Rule.TheVariants.{HeadSize, Head, Host, TransferCoding, Length, Body}
+use Rattle.cat_http.specs.declared.status.Status.{Status}
+use Rattle.cat_http.specs.declared.status.Status.TheVariants as status
+use Rattle.cat_http.specs.Status.{code}
 use Rattle.cat_http.specs.Lines.{blank, head_length, line_count}
 use Rattle.cat_http.specs.Head.{Parts, parts_of, values, body_length, is_last, origin, path_of, query_of}
 
 -- the status that a broken rule is answered with
+abbrev pub rule_status : Rule → Status
+rule_status HeadSize = status.RequestHeaderFieldsTooLarge
+rule_status Head = status.BadRequest
+rule_status Host = status.BadRequest
+rule_status TransferCoding = status.NotImplemented
+rule_status Length = status.BadRequest
+rule_status Body = status.PayloadTooLarge
+
+-- its number
 abbrev pub status_of : Rule → ℕ
-status_of HeadSize = 431
-status_of Head = 400
-status_of Host = 400
-status_of TransferCoding = 501
-status_of Length = 400
-status_of Body = 413
+status_of rule = code (rule_status rule)
 
 -- The bytes are refused for breaking this rule, with its status.
 abbrev pub refused : Rule → Next

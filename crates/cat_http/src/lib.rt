@@ -8,8 +8,8 @@
 //! each buffer; what is whole or refused stays so whatever follows it; more bytes are wanted exactly where no prefix is
 //! whole or refused. A reply is written whole or not at all, and always where there is room for it.
 //!
-//! It stands on cat_tree for its texts, on `httparse`, whose grammar says what a head is, on `http` for statuses and
-//! their phrases, and on `itoa`. It knows nothing of a catalogue.
+//! It stands on cat_tree for its texts, on `httparse`, whose grammar says what a head is, and on `itoa`. It knows nothing of a
+//! catalogue.
 #![tactic(auto)]
 
 pub mod body;
@@ -19,3 +19,4 @@ pub mod head;
 pub mod message;
 pub mod reply;
 pub mod request_target;
+pub mod status;

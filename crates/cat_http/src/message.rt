@@ -2,15 +2,16 @@
 ghost use Rattle.std.specs.Prelude.{◌≡◌, ◌↔◌, ◌≤◌, ◌<◌, ◌+◌, ◌^◌, ◌&&◌, not, ◌==◌, nat_lt, ℕ, length, map, take, drop, codes, All, IfOk, IfErr, IsTrue, IsUtf8, slice_range};
 ghost use Rattle.httparse.specs.Spans.{IsWithin, IsHeaderWithin, header_bytes, span_bytes};
 ghost use Rattle.cat_http.specs.Head.{Parts, parts_at, values, body_length, is_last, origin, path_of, query_of};
-ghost use Rattle.cat_http.specs.Message.{status_of, refused, sized, check, message_of, answered, AnswersHead, AnswersRest, headless, Stands, Lacks, OneStands, StandsLater, TakesWithin, HasNoEarlier, Gives, GivesWhat};
+ghost use Rattle.cat_http.specs.Message.{rule_status, refused, sized, check, message_of, answered, AnswersHead, AnswersRest, headless, Stands, Lacks, OneStands, StandsLater, TakesWithin, HasNoEarlier, Gives, GivesWhat};
 ghost use Rattle.cat_http.specs.Lines.{head_length};
 
 use crate::body::Bytes;
 use crate::fields::{Found, asks_to_close, find_field, read_length};
 use crate::head::{blank_length, count_lines, find_head};
 use crate::request_target::cut_target;
+use crate::status::Status;
 use cat_tree::text::Text;
-use httparse::Status;
+use httparse::Status as Read;
 use httparse::spans::{EMPTY_HEADER_SPAN, HeaderSpan, RequestSpans, parse_request};
 use std::alloc::{AllocError, Global};
 use std::str::from_utf8;
@@ -76,21 +77,21 @@ pub struct Lack {
     pub bare: bool,
 }
 
-fn status(rule: Rule) -> u16
-    ensures { result ≡ status_of rule }
+fn status(rule: Rule) -> Status
+    ensures { result ≡ rule_status rule }
 {
     match rule {
-        Rule::HeadSize => 431,
-        Rule::Head | Rule::Host | Rule::Length => 400,
-        Rule::TransferCoding => 501,
-        Rule::Body => 413,
+        Rule::HeadSize => Status::RequestHeaderFieldsTooLarge,
+        Rule::Head | Rule::Host | Rule::Length => Status::BadRequest,
+        Rule::TransferCoding => Status::NotImplemented,
+        Rule::Body => Status::PayloadTooLarge,
     }
 }
 
 fn refuse(rule: Rule) -> Next
     ensures { result ≡ refused rule }
 {
-    Next::Refused(status(rule), rule)
+    Next::Refused(status(rule).code(), rule)
 }
 
 fn lacks_host(head: &[u8], fields: &[HeaderSpan], minor: u8) -> bool
@@ -240,13 +241,13 @@ fn read_head(alloc: Global, head: &[u8], after: &[u8], used: usize) -> Result<Ne
     }
     let mut headers = [EMPTY_HEADER_SPAN; FIELD_LINES];
     match parse_request(head, &mut headers) {
-        Ok(Status::Complete(spans)) => {
+        Ok(Read::Complete(spans)) => {
             if spans.len != head.len() {
                 return Ok(refuse(Rule::Head));
             }
             answer(alloc, head, &headers, spans, after, used)
         }
-        Ok(Status::Partial) => Ok(refuse(Rule::Head)),
+        Ok(Read::Partial) => Ok(refuse(Rule::Head)),
         Err(_) => Ok(refuse(Rule::Head)),
     }
 }

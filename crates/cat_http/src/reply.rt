@@ -1,8 +1,10 @@
 //! The bytes of replies.
-ghost use Rattle.std.specs.Prelude.{◌≡◌, ◌≤◌, ◌<◌, ◌+◌, ◌++◌, [], if◌then◌else◌, ◌==◌, ◌||◌, codes, length, flat_map, IsTrue, OnOk, OnErr, is_ok, vec_len, vec_capacity};
-ghost use Rattle.cat_http.specs.Reply.{is_named, phrase_of, joined, status_line, content_lines, allow_line, close_line, end_of, reply_bytes, Adds};
+ghost use Rattle.std.specs.Prelude.{◌≡◌, ◌≤◌, ◌<◌, ◌+◌, ◌++◌, [], codes, length, flat_map, OnOk, OnErr, is_ok, vec_len, vec_capacity};
+ghost use Rattle.cat_http.specs.Reply.{joined, status_line, content_lines, allow_line, close_line, end_of, reply_bytes, Adds};
+ghost use Rattle.cat_http.specs.Status.{phrase};
 
 use crate::body::{Bytes, Texts};
+use crate::status::Status;
 use cat_tree::text::Text;
 use itoa::Buffer;
 use std::alloc::AllocError;
@@ -11,10 +13,10 @@ use std::alloc::AllocError;
 #[derive(Drop)]
 pub struct HttpReply {
     /// The status.
-    pub status: u16,
-    /// The body, which is left out for status 204.
+    pub status: Status,
+    /// The body, which is left out where the status is `NoContent`.
     pub body: Bytes,
-    /// The methods that the path has, which are written for status 405.
+    /// The methods that the path has, which are written where the status is `MethodNotAllowed`.
     pub allow: Texts,
     /// Whether the connection ends after it.
     pub close: bool,
@@ -45,41 +47,28 @@ fn put_three(out: &mut Vec<u8>, first: &[u8], second: &[u8], third: &[u8]) -> Re
     put_two(out, second, third)
 }
 
-// The digits and the phrase of a status (RFC 9110, section 15, but for the older phrase of 413; RFC 6585 for 431, RFC 4918 for 507), and
-// nothing for a status that no reply has.
-fn phrase(status: u16) -> &'static str
-    ensures { result.now ≡ phrase_of status }
+fn put_phrase(out: &mut Vec<u8>, status: Status) -> Result<(), AllocError>
+    ensures { Adds out.old.items out.new.items (vec_capacity out.old) (vec_capacity out.new)
+        (is_ok result) (codes " " ++ (phrase status ++ codes "\r\n")) }
 {
-    match status {
-        200 => "200 OK",
-        204 => "204 No Content",
-        400 => "400 Bad Request",
-        404 => "404 Not Found",
-        405 => "405 Method Not Allowed",
-        409 => "409 Conflict",
-        410 => "410 Gone",
-        413 => "413 Payload Too Large",
-        431 => "431 Request Header Fields Too Large",
-        500 => "500 Internal Server Error",
-        501 => "501 Not Implemented",
-        503 => "503 Service Unavailable",
-        507 => "507 Insufficient Storage",
-        _ => "",
-    }
+    put_three(out, b" ", status.phrase().as_bytes(), b"\r\n")
 }
 
-fn put_status(out: &mut Vec<u8>, status: u16) -> Result<(), AllocError>
+fn put_status(out: &mut Vec<u8>, status: Status) -> Result<(), AllocError>
     ensures { Adds out.old.items out.new.items (vec_capacity out.old) (vec_capacity out.new)
         (is_ok result) (status_line status) }
 {
-    put_three(out, b"HTTP/1.1 ", phrase(status).as_bytes(), b"\r\n")
+    put(out, b"HTTP/1.1 ")?;
+    let mut buffer = Buffer::new();
+    put(out, buffer.format(status.code()).as_bytes())?;
+    put_phrase(out, status)
 }
 
-fn put_content(out: &mut Vec<u8>, status: u16, body: &[u8]) -> Result<(), AllocError>
+fn put_content(out: &mut Vec<u8>, status: Status, body: &[u8]) -> Result<(), AllocError>
     ensures { Adds out.old.items out.new.items (vec_capacity out.old) (vec_capacity out.new)
         (is_ok result) (content_lines status body.now) }
 {
-    if status == 204 {
+    if !status.has_content() {
         return put(out, b"");
     }
     let mut buffer = Buffer::new();
@@ -116,11 +105,11 @@ fn put_joined(out: &mut Vec<u8>, methods: &[Text]) -> Result<(), AllocError>
     put_methods(out, &methods[1..])
 }
 
-fn put_allow(out: &mut Vec<u8>, status: u16, methods: &[Text]) -> Result<(), AllocError>
+fn put_allow(out: &mut Vec<u8>, status: Status, methods: &[Text]) -> Result<(), AllocError>
     ensures { Adds out.old.items out.new.items (vec_capacity out.old) (vec_capacity out.new)
         (is_ok result) (allow_line status methods.now) }
 {
-    if status != 405 {
+    if !status.has_methods() {
         return put(out, b"");
     }
     put(out, b"Allow: ")?;
@@ -143,7 +132,7 @@ fn put_end(out: &mut Vec<u8>, reply: &HttpReply) -> Result<(), AllocError>
     ensures { Adds out.old.items out.new.items (vec_capacity out.old) (vec_capacity out.new)
         (is_ok result) (end_of reply.now) }
 {
-    if reply.bare || reply.status == 204 {
+    if reply.bare || !reply.status.has_content() {
         put_two(out, b"\r\n", b"")
     } else {
         put_two(out, b"\r\n", reply.body.as_slice())
@@ -178,7 +167,6 @@ fn put_from_content(out: &mut Vec<u8>, reply: &HttpReply) -> Result<(), AllocErr
 }
 
 fn put_reply(out: &mut Vec<u8>, reply: &HttpReply) -> Result<(), AllocError>
-    requires { IsTrue (is_named reply.now.status) }
     ensures { Adds out.old.items out.new.items (vec_capacity out.old) (vec_capacity out.new)
         (is_ok result) (reply_bytes reply.now) }
 {
@@ -188,7 +176,6 @@ fn put_reply(out: &mut Vec<u8>, reply: &HttpReply) -> Result<(), AllocError>
 
 /// Appends the bytes of the reply. Where memory is wanting, `out` stays as it was.
 pub fn write_reply(reply: &HttpReply, out: &mut Vec<u8>) -> Result<(), AllocError>
-    requires named { IsTrue (is_named reply.now.status) }
     ensures ok { OnOk result (out.new.items ≡ out.old.items ++ reply_bytes reply.now) }
     ensures err { OnErr result (out.new.items ≡ out.old.items) }
     ensures room { OnErr result

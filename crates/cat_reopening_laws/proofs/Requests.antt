@@ -22,8 +22,8 @@ use Rattle.cat_query.specs.declared.ask.Ask.TheVariants as ask
 use Rattle.cat_requests.specs.Bodies.{reference_of}
 use Rattle.cat_requests.specs.Paths.{resource_of}
 use Rattle.cat_requests.specs.Requests.{asked_by, entity, fixed_by, mutate, mutated, name_among, number, numbered_by, on, place_of, posted_by, posts, put_by, put_text, question, reads, request_of, requested, resource_asked, shelf_name, shelved_by, verb_of, with_method}
-use Rattle.cat_requests.specs.declared.path.Fixed.{Fixed}
-use Rattle.cat_requests.specs.declared.path.Fixed.TheVariants as fixed
+use Rattle.cat_requests.specs.declared.routes.Fixed.{Fixed}
+use Rattle.cat_requests.specs.declared.routes.Fixed.TheVariants as fixed
 use Rattle.cat_requests.specs.declared.path.Resource.{Resource}
 use Rattle.cat_requests.specs.declared.path.Resource.TheVariants as resource
 use Rattle.cat_requests.specs.declared.refusal.Refusal.{Refusal}

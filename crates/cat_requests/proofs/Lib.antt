@@ -1,3 +1,5 @@
 pub mod Pieces
 pub mod Digits
 pub mod Words
+pub mod Routing
+pub mod SentRoutes

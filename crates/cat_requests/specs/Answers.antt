@@ -4,6 +4,8 @@ use Rattle.std.specs.Fmt.{decimal}
 use Rattle.cat_http.specs.declared.message.Message.{Message}
 use Rattle.cat_http.specs.declared.reply.HttpReply.{HttpReply}
 use Rattle.cat_http.specs.Errors.{error_body}
+use Rattle.cat_http.specs.declared.status.Status.{Status}
+use Rattle.cat_http.specs.declared.status.Status.TheVariants as status
 use Rattle.cat_model.specs.declared.types.Acted.{Acted}
 use Rattle.cat_model.specs.declared.types.Acted.TheVariants.{Now, Again}
 use Rattle.cat_model.specs.declared.types.Counts.{Counts}
@@ -15,12 +17,12 @@ use Rattle.cat_requests.specs.declared.refusal.Refusal.{Refusal}
 use Rattle.cat_requests.specs.declared.refusal.Refusal.TheVariants as refusal
 
 -- the status of an answer
-abbrev pub answer_status : Answer → ℕ
-answer_status (Shown text) = 200
-answer_status (Mutated acted) = 200
-answer_status Done = 204
-answer_status Refreshed = 200
-answer_status (Settled counts) = 200
+abbrev pub answer_status : Answer → Status
+answer_status (Shown text) = status.Ok
+answer_status (Mutated acted) = status.Ok
+answer_status Done = status.NoContent
+answer_status Refreshed = status.Ok
+answer_status (Settled counts) = status.Ok
 answer_status (Refused r) = status_of r
 
 -- whether a mutation acted, or its serial is the last one again
@@ -49,8 +51,8 @@ answer_allow (Refused r) = allowed r
 answer_allow _ = []
 
 -- a reply ends the connection where the message does, and to a HEAD it has no body
-abbrev pub reply_with : Message → ℕ → List ℕ → List (List ℕ) → HttpReply
-reply_with m status body allow = record { status = status; body = body; allow = allow; close = m.last; bare = bytes_eq m.method (codes "HEAD") }
+abbrev pub reply_with : Message → Status → List ℕ → List (List ℕ) → HttpReply
+reply_with m told body allow = record { status = told; body = body; allow = allow; close = m.last; bare = bytes_eq m.method (codes "HEAD") }
 
 -- the reply to a message
 abbrev pub reply_to : Message → Answer → HttpReply

@@ -1,4 +1,5 @@
 pub mod Uids
+pub mod Routes
 pub mod Paths
 pub mod Refusals
 pub mod Bodies

@@ -10,6 +10,8 @@ use Rattle.cat_inputs.specs.declared.fault.InputFault.TheVariants as input
 use Rattle.cat_query.specs.declared.fault.QueryFault.{QueryFault}
 use Rattle.cat_query.specs.declared.fault.QueryFault.TheVariants as query
 use Rattle.cat_feed.specs.Place.{since_text}
+use Rattle.cat_http.specs.declared.status.Status.{Status}
+use Rattle.cat_http.specs.declared.status.Status.TheVariants as status
 use Rattle.cat_replies.specs.Events.{counter_text}
 use Rattle.cat_requests.specs.declared.refusal.Methods.{Methods}
 use Rattle.cat_requests.specs.declared.refusal.Methods.TheVariants as methods
@@ -29,30 +31,30 @@ allowed (Method ms) = methods_of ms
 allowed _ = []
 
 -- the status of a refusal
-abbrev pub status_of : Refusal → ℕ
-status_of Route = 404
-status_of (Method ms) = 405
-status_of Entity = 404
-status_of Shelf = 404
-status_of Name = 400
-status_of Text = 400
-status_of (Reference i) = 400
-status_of (Input fault) = 400
-status_of (Query fault) = 400
-status_of Facet = 400
-status_of Place = 400
-status_of (Gone since) = 410
-status_of (Ahead since) = 400
-status_of (OldSerial last) = 409
-status_of (TooLarge sum) = 413
-status_of (Spent counter) = 500
-status_of (CutByCounter events counter) = 500
-status_of (CutByMemory events) = 507
-status_of (CutByKeeper events) = 503
-status_of SpentFeed = 500
-status_of Reply = 500
-status_of Keeper = 503
-status_of NoMemory = 507
+abbrev pub status_of : Refusal → Status
+status_of Route = status.NotFound
+status_of (Method ms) = status.MethodNotAllowed
+status_of Entity = status.NotFound
+status_of Shelf = status.NotFound
+status_of Name = status.BadRequest
+status_of Text = status.BadRequest
+status_of (Reference i) = status.BadRequest
+status_of (Input fault) = status.BadRequest
+status_of (Query fault) = status.BadRequest
+status_of Facet = status.BadRequest
+status_of Place = status.BadRequest
+status_of (Gone since) = status.Gone
+status_of (Ahead since) = status.BadRequest
+status_of (OldSerial last) = status.Conflict
+status_of (TooLarge sum) = status.PayloadTooLarge
+status_of (Spent counter) = status.InternalServerError
+status_of (CutByCounter events counter) = status.InternalServerError
+status_of (CutByMemory events) = status.InsufficientStorage
+status_of (CutByKeeper events) = status.ServiceUnavailable
+status_of SpentFeed = status.InternalServerError
+status_of Reply = status.InternalServerError
+status_of Keeper = status.ServiceUnavailable
+status_of NoMemory = status.InsufficientStorage
 
 -- why the bytes are no tree
 abbrev pub tree_words : TreeFault → List (List ℕ)

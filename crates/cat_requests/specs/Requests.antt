@@ -23,8 +23,8 @@ use Rattle.cat_requests.specs.Bodies.{many_of, reference_of}
 use Rattle.cat_requests.specs.Paths.{resource_of}
 use Rattle.cat_requests.specs.Refusals.{input_refusal, query_refusal}
 use Rattle.cat_requests.specs.Uids.{number_of_uid}
-use Rattle.cat_requests.specs.declared.path.Fixed.{Fixed}
-use Rattle.cat_requests.specs.declared.path.Fixed.TheVariants as fixed
+use Rattle.cat_requests.specs.declared.routes.Fixed.{Fixed}
+use Rattle.cat_requests.specs.declared.routes.Fixed.TheVariants as fixed
 use Rattle.cat_requests.specs.declared.path.Resource.{Resource}
 use Rattle.cat_requests.specs.declared.path.Resource.TheVariants as resource
 use Rattle.cat_requests.specs.declared.refusal.Methods.TheVariants.{Reads, ReadsAndDeletes, Posts, PutsAndDeletes}

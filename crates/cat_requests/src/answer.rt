@@ -13,6 +13,7 @@ use cat_feed::change::Since;
 use cat_http::body::{Bytes, Texts};
 use cat_http::message::Message;
 use cat_http::reply::HttpReply;
+use cat_http::status::Status;
 use cat_inputs::fault::InputFault;
 use cat_model::types::{Acted, Counter, Counts};
 use cat_query::fault::QueryFault;
@@ -58,7 +59,7 @@ fn counter_text(counter: Counter) -> &'static str
 // Appends the body of an error: four pieces of words, and the status.
 fn push_error<'x>(
     out: &mut Vec<u8>,
-    status: u16,
+    status: Status,
     one: Piece<'x>,
     two: Piece<'x>,
     three: Piece<'x>,
@@ -78,20 +79,20 @@ fn push_error<'x>(
             three,
             four,
             Piece::Text("\"},\"response\":{\"statusCode\":"),
-            Piece::Number(status as u64),
+            Piece::Number(status.code() as u64),
             Piece::Text("}}"),
         ],
     )
 }
 
-fn push_words(out: &mut Vec<u8>, status: u16, words: &str) -> Result<(), AllocError>
+fn push_words(out: &mut Vec<u8>, status: Status, words: &str) -> Result<(), AllocError>
     ensures ok { OnOk result (out.new.items ≡ out.old.items ++ error_body status (joined (words.now ∷ []))) }
     ensures room { vec_len out.old + (80 + length words.now) ≤ vec_capacity out.old → IsOk result }
 {
     push_error(out, status, Piece::Text(words), NONE, NONE, NONE)
 }
 
-fn push_at(out: &mut Vec<u8>, status: u16, words: &str, number: u64) -> Result<(), AllocError>
+fn push_at(out: &mut Vec<u8>, status: Status, words: &str, number: u64) -> Result<(), AllocError>
     ensures ok { OnOk result (out.new.items ≡ out.old.items
         ++ error_body status (joined (words.now ∷ piece_text (Piece.Number number) ∷ []))) }
     ensures room { vec_len out.old + (100 + length words.now) ≤ vec_capacity out.old → IsOk result }
@@ -106,7 +107,12 @@ fn push_at(out: &mut Vec<u8>, status: u16, words: &str, number: u64) -> Result<(
     )
 }
 
-fn push_place(out: &mut Vec<u8>, status: u16, words: &str, place: Since) -> Result<(), AllocError>
+fn push_place(
+    out: &mut Vec<u8>,
+    status: Status,
+    words: &str,
+    place: Since,
+) -> Result<(), AllocError>
     ensures ok { OnOk result (out.new.items ≡ out.old.items
         ++ error_body status (joined (words.now ∷ since_text place ∷ []))) }
     ensures room { vec_len out.old + (121 + length words.now) ≤ vec_capacity out.old → IsOk result }
@@ -122,51 +128,55 @@ fn push_place(out: &mut Vec<u8>, status: u16, words: &str, place: Since) -> Resu
 }
 
 fn push_input(out: &mut Vec<u8>, fault: InputFault) -> Result<(), AllocError>
-    ensures { OnOk result (out.new.items ≡ out.old.items ++ error_body 400 (joined (input_words fault))) }
+    ensures { OnOk result (out.new.items ≡ out.old.items ++ error_body Status.BadRequest (joined (input_words fault))) }
 {
     match fault {
-        InputFault::Json(TreeFault::Syntax) => push_words(out, 400, "json syntax"),
-        InputFault::Json(TreeFault::Fraction) => push_words(out, 400, "json fraction"),
-        InputFault::Json(TreeFault::NoMemory) => push_words(out, 400, "memory"),
+        InputFault::Json(TreeFault::Syntax) => push_words(out, Status::BadRequest, "json syntax"),
+        InputFault::Json(TreeFault::Fraction) => push_words(
+            out,
+            Status::BadRequest,
+            "json fraction",
+        ),
+        InputFault::Json(TreeFault::NoMemory) => push_words(out, Status::BadRequest, "memory"),
         InputFault::Shape(place) => push_error(
             out,
-            400,
+            Status::BadRequest,
             Piece::Text("shape "),
             Piece::Text(place.text()),
             NONE,
             NONE,
         ),
-        InputFault::TooMany => push_words(out, 400, "too_many"),
-        InputFault::Deep(i) => push_at(out, 400, "deep ", i as u64),
+        InputFault::TooMany => push_words(out, Status::BadRequest, "too_many"),
+        InputFault::Deep(i) => push_at(out, Status::BadRequest, "deep ", i as u64),
         InputFault::NoRef(i, fault) => push_error(
             out,
-            400,
+            Status::BadRequest,
             Piece::Text("no_ref "),
             Piece::Number(i as u64),
             Piece::Text(" "),
             Piece::Text(fault.text()),
         ),
-        InputFault::Duplicate(i) => push_at(out, 400, "duplicate ", i as u64),
-        InputFault::NoMemory => push_words(out, 400, "memory"),
+        InputFault::Duplicate(i) => push_at(out, Status::BadRequest, "duplicate ", i as u64),
+        InputFault::NoMemory => push_words(out, Status::BadRequest, "memory"),
     }
 }
 
 fn push_query(out: &mut Vec<u8>, fault: QueryFault) -> Result<(), AllocError>
-    ensures { OnOk result (out.new.items ≡ out.old.items ++ error_body 400 (joined (query_words fault))) }
+    ensures { OnOk result (out.new.items ≡ out.old.items ++ error_body Status.BadRequest (joined (query_words fault))) }
 {
     match fault {
         QueryFault::Filter(filter, condition) => push_error(
             out,
-            400,
+            Status::BadRequest,
             Piece::Text("filter "),
             Piece::Number(filter as u64),
             Piece::Text(" "),
             Piece::Number(condition as u64),
         ),
-        QueryFault::BadOrder => push_words(out, 400, "order"),
-        QueryFault::BadLimit => push_words(out, 400, "limit"),
-        QueryFault::BadCursor => push_words(out, 400, "cursor"),
-        QueryFault::NoMemory => push_words(out, 400, "memory"),
+        QueryFault::BadOrder => push_words(out, Status::BadRequest, "order"),
+        QueryFault::BadLimit => push_words(out, Status::BadRequest, "limit"),
+        QueryFault::BadCursor => push_words(out, Status::BadRequest, "cursor"),
+        QueryFault::NoMemory => push_words(out, Status::BadRequest, "memory"),
     }
 }
 
@@ -176,40 +186,45 @@ fn push_refusal(out: &mut Vec<u8>, refusal: Refusal) -> Result<(), AllocError>
     ensures room { spec.IsShortRefusal refusal → vec_len out.old + 160 ≤ vec_capacity out.old → IsOk result }
 {
     match refusal {
-        Refusal::Route => push_words(out, 404, "route"),
-        Refusal::Method(_) => push_words(out, 405, "method"),
-        Refusal::Entity => push_words(out, 404, "entity"),
-        Refusal::Shelf => push_words(out, 404, "shelf"),
-        Refusal::Name => push_words(out, 400, "name"),
-        Refusal::Text => push_words(out, 400, "text"),
-        Refusal::Reference(i) => push_at(out, 400, "reference ", i as u64),
+        Refusal::Route => push_words(out, Status::NotFound, "route"),
+        Refusal::Method(_) => push_words(out, Status::MethodNotAllowed, "method"),
+        Refusal::Entity => push_words(out, Status::NotFound, "entity"),
+        Refusal::Shelf => push_words(out, Status::NotFound, "shelf"),
+        Refusal::Name => push_words(out, Status::BadRequest, "name"),
+        Refusal::Text => push_words(out, Status::BadRequest, "text"),
+        Refusal::Reference(i) => push_at(out, Status::BadRequest, "reference ", i as u64),
         Refusal::Input(fault) => push_input(out, fault),
         Refusal::Query(fault) => push_query(out, fault),
-        Refusal::Facet => push_words(out, 400, "facet"),
-        Refusal::Place => push_words(out, 400, "since"),
-        Refusal::Gone(place) => push_place(out, 410, "gone ", place),
-        Refusal::Ahead(place) => push_place(out, 400, "ahead ", place),
-        Refusal::OldSerial(last) => push_at(out, 409, "old_serial ", last),
-        Refusal::TooLarge(sum) => push_at(out, 413, "too_large ", sum),
+        Refusal::Facet => push_words(out, Status::BadRequest, "facet"),
+        Refusal::Place => push_words(out, Status::BadRequest, "since"),
+        Refusal::Gone(place) => push_place(out, Status::Gone, "gone ", place),
+        Refusal::Ahead(place) => push_place(out, Status::BadRequest, "ahead ", place),
+        Refusal::OldSerial(last) => push_at(out, Status::Conflict, "old_serial ", last),
+        Refusal::TooLarge(sum) => push_at(out, Status::PayloadTooLarge, "too_large ", sum),
         Refusal::Spent(counter) => push_spent(out, counter),
         Refusal::CutByCounter(events, counter) => push_cut(out, events, counter),
-        Refusal::CutByMemory(events) => push_at(out, 507, "memory ", events),
-        Refusal::CutByKeeper(events) => push_at(out, 503, "keeper ", events),
-        Refusal::SpentFeed => push_words(out, 500, "spent feed"),
-        Refusal::Reply => push_words(out, 500, "reply"),
-        Refusal::Keeper => push_words(out, 503, "keeper"),
-        Refusal::NoMemory => push_words(out, 507, "memory"),
+        Refusal::CutByMemory(events) => push_at(
+            out,
+            Status::InsufficientStorage,
+            "memory ",
+            events,
+        ),
+        Refusal::CutByKeeper(events) => push_at(out, Status::ServiceUnavailable, "keeper ", events),
+        Refusal::SpentFeed => push_words(out, Status::InternalServerError, "spent feed"),
+        Refusal::Reply => push_words(out, Status::InternalServerError, "reply"),
+        Refusal::Keeper => push_words(out, Status::ServiceUnavailable, "keeper"),
+        Refusal::NoMemory => push_words(out, Status::InsufficientStorage, "memory"),
     }
 }
 
 fn push_spent(out: &mut Vec<u8>, counter: Counter) -> Result<(), AllocError>
-    ensures ok { OnOk result (out.new.items ≡ out.old.items ++ error_body 500 (joined (words_of (Refusal.Spent counter)))) }
+    ensures ok { OnOk result (out.new.items ≡ out.old.items ++ error_body Status.InternalServerError (joined (words_of (Refusal.Spent counter)))) }
     ensures room { vec_len out.old + 160 ≤ vec_capacity out.old → IsOk result }
 {
     let name = counter_text(counter);
     push_error(
         out,
-        500,
+        Status::InternalServerError,
         Piece::Text("spent "),
         Piece::Text(name),
         NONE,
@@ -218,13 +233,13 @@ fn push_spent(out: &mut Vec<u8>, counter: Counter) -> Result<(), AllocError>
 }
 
 fn push_cut(out: &mut Vec<u8>, events: u64, counter: Counter) -> Result<(), AllocError>
-    ensures ok { OnOk result (out.new.items ≡ out.old.items ++ error_body 500 (joined (words_of (Refusal.CutByCounter events counter)))) }
+    ensures ok { OnOk result (out.new.items ≡ out.old.items ++ error_body Status.InternalServerError (joined (words_of (Refusal.CutByCounter events counter)))) }
     ensures room { vec_len out.old + 160 ≤ vec_capacity out.old → IsOk result }
 {
     let name = counter_text(counter);
     push_error(
         out,
-        500,
+        Status::InternalServerError,
         Piece::Text("spent "),
         Piece::Text(name),
         Piece::Text(" "),
@@ -260,12 +275,12 @@ fn push_acted(out: &mut Vec<u8>, acted: Acted) -> Result<(), AllocError>
     }
 }
 
-fn status(refusal: Refusal) -> u16
+fn status(refusal: Refusal) -> Status
     ensures { result ≡ status_of refusal }
 {
     match refusal {
-        Refusal::Route | Refusal::Entity | Refusal::Shelf => 404,
-        Refusal::Method(_) => 405,
+        Refusal::Route | Refusal::Entity | Refusal::Shelf => Status::NotFound,
+        Refusal::Method(_) => Status::MethodNotAllowed,
         Refusal::Name
         | Refusal::Text
         | Refusal::Reference(_)
@@ -273,14 +288,14 @@ fn status(refusal: Refusal) -> u16
         | Refusal::Query(_)
         | Refusal::Facet
         | Refusal::Place
-        | Refusal::Ahead(_) => 400,
-        Refusal::OldSerial(_) => 409,
-        Refusal::Gone(_) => 410,
-        Refusal::TooLarge(_) => 413,
+        | Refusal::Ahead(_) => Status::BadRequest,
+        Refusal::OldSerial(_) => Status::Conflict,
+        Refusal::Gone(_) => Status::Gone,
+        Refusal::TooLarge(_) => Status::PayloadTooLarge,
         Refusal::Spent(_) | Refusal::CutByCounter(_, _) | Refusal::SpentFeed | Refusal::Reply =>
-            500,
-        Refusal::CutByKeeper(_) | Refusal::Keeper => 503,
-        Refusal::CutByMemory(_) | Refusal::NoMemory => 507,
+            Status::InternalServerError,
+        Refusal::CutByKeeper(_) | Refusal::Keeper => Status::ServiceUnavailable,
+        Refusal::CutByMemory(_) | Refusal::NoMemory => Status::InsufficientStorage,
     }
 }
 
@@ -316,7 +331,7 @@ fn allowed(alloc: Global, refusal: Refusal) -> Result<Texts, AllocError>
 }
 
 // The reply to a message with this status, body and methods.
-fn reply_with(message: &Message, status: u16, body: Bytes, allow: Texts) -> HttpReply
+fn reply_with(message: &Message, status: Status, body: Bytes, allow: Texts) -> HttpReply
     ensures { result ≡ spec.reply_with message.now status body allow }
 {
     HttpReply {
@@ -358,7 +373,7 @@ fn mutated(
     push_acted(&mut body, acted)?;
     Ok(reply_with(
         message,
-        200,
+        Status::Ok,
         Bytes::from_vec(body),
         Texts::from_vec(Vec::new(alloc)),
     ))
@@ -378,7 +393,7 @@ fn settled(
     push_counts(&mut body, counts)?;
     Ok(reply_with(
         message,
-        200,
+        Status::Ok,
         Bytes::from_vec(body),
         Texts::from_vec(Vec::new(alloc)),
     ))
@@ -393,7 +408,7 @@ fn refreshed(body: Vec<u8>, alloc: Global, message: &Message) -> Result<HttpRepl
     body.extend_from_slice(b"{}")?;
     Ok(reply_with(
         message,
-        200,
+        Status::Ok,
         Bytes::from_vec(body),
         Texts::from_vec(Vec::new(alloc)),
     ))
@@ -413,9 +428,9 @@ pub fn reply_to(
 {
     let none = Texts::from_vec(Vec::new(alloc));
     match answer {
-        Answer::Shown(text) => Ok(reply_with(message, 200, text, none)),
+        Answer::Shown(text) => Ok(reply_with(message, Status::Ok, text, none)),
         Answer::Mutated(acted) => mutated(body, alloc, message, acted),
-        Answer::Done => Ok(reply_with(message, 204, Bytes::from_vec(body), none)),
+        Answer::Done => Ok(reply_with(message, Status::NoContent, Bytes::from_vec(body), none)),
         Answer::Refreshed => refreshed(body, alloc, message),
         Answer::Settled(counts) => settled(body, alloc, message, counts),
         Answer::Refused(refusal) => refuse(alloc, body, message, refusal),

@@ -5,7 +5,8 @@
 //! promises that both are what definitions compute from the message and the answer. It knows nothing of a catalogue.
 //!
 //! It stands on cat_http for messages and replies, on cat_inputs for the bodies of mutations, on cat_session_lines and cat_query
-//! for queries, on cat_feed and cat_feed for places of a feed, on cat_types for names and references, and on `percent_encoding` for the pieces of paths.
+//! for queries, on cat_feed for places of a feed, on cat_types for names and references, on `matchit` for routes, and on
+//! `percent_encoding` for the pieces of paths.
 #![tactic(auto)]
 
 pub mod answer;
@@ -14,4 +15,5 @@ mod parameters;
 pub mod path;
 pub mod refusal;
 pub mod request;
+pub mod routes;
 pub mod uid;

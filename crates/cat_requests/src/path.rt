@@ -1,75 +1,13 @@
 //! Paths, and what they name.
 ghost use Rattle.std.specs.Prelude.{◌≡◌, ◌⊎◌, option_map, IfOk, IfErr, Ok, Err};
 ghost use Rattle.cat_requests.specs.Paths as spec;
-ghost use Rattle.cat_requests.specs.Paths.{fixed_text, fixed_named as the_fixed};
 
 use crate::refusal::Refusal;
+use crate::routes::{Fixed, Route, Routes};
 use cat_inputs::form::Form;
 use cat_tree::text::Text;
 use percent_encoding::{DecodeError, percent_decode};
 use std::alloc::Global;
-
-/// A path without pieces of its own.
-#[derive(Clone, Copy, Debug, Drop, PartialEq, Eq)]
-pub enum Fixed {
-    Entities,
-    ByQuery,
-    ByRefs,
-    EntityFacets,
-    Refresh,
-    Shelf,
-    Settle,
-    Conflicts,
-    Failed,
-    Orphans,
-    Changes,
-}
-
-const FIXED: [Fixed; 11] = [
-    Fixed::Entities,
-    Fixed::ByQuery,
-    Fixed::ByRefs,
-    Fixed::EntityFacets,
-    Fixed::Refresh,
-    Fixed::Shelf,
-    Fixed::Settle,
-    Fixed::Conflicts,
-    Fixed::Failed,
-    Fixed::Orphans,
-    Fixed::Changes,
-];
-
-impl Fixed {
-    /// How the path is written, as `/entities/by-query`.
-    pub fn text(self) -> &'static str
-        ensures { result.now ≡ fixed_text self }
-    {
-        match self {
-            Fixed::Entities => "/entities",
-            Fixed::ByQuery => "/entities/by-query",
-            Fixed::ByRefs => "/entities/by-refs",
-            Fixed::EntityFacets => "/entity-facets",
-            Fixed::Refresh => "/refresh",
-            Fixed::Shelf => "/shelf",
-            Fixed::Settle => "/settle",
-            Fixed::Conflicts => "/conflicts",
-            Fixed::Failed => "/failed",
-            Fixed::Orphans => "/orphans",
-            Fixed::Changes => "/changes",
-        }
-    }
-}
-
-/// A path with pieces, as they are written.
-#[derive(Clone, Copy, Debug, Drop)]
-pub enum Pattern<'a> {
-    /// An entity by its unique id.
-    ByUid(&'a str),
-    /// An entity by kind, namespace and name.
-    ByName(&'a str, &'a str, &'a str),
-    /// A provider's name, and the form of its mutations.
-    Mutation(&'a str, Form),
-}
 
 /// What a path names, with its pieces as texts.
 #[derive(Drop)]
@@ -84,15 +22,6 @@ pub enum Resource {
     Mutation(Text, Form),
 }
 
-fn fixed_named(path: &[u8]) -> Option<Fixed>
-    ensures { result ≡ the_fixed path.now }
-{
-    FIXED
-        .iter()
-        .copied()
-        .find(|fixed| fixed.text().as_bytes() == path)
-}
-
 // What stands before the first slash and after it, if there is one.
 fn halves(text: &str) -> Option<(&str, &str)>
     ensures { option_map (λ p. (p.0.now, p.1.now)) result ≡ spec.halves text.now }
@@ -103,57 +32,24 @@ fn halves(text: &str) -> Option<(&str, &str)>
     }
 }
 
-fn form_named(text: &str) -> Option<Form>
-    ensures { result ≡ spec.form_named text.now }
+// What stands before the first slash, or the whole text.
+fn front(text: &str) -> &str
+    ensures { result.now ≡ spec.front text.now }
 {
-    match text {
-        "full" => Some(Form::Full),
-        "delta" => Some(Form::Delta),
-        _ => None,
+    match halves(text) {
+        Some((first, _)) => first,
+        None => text,
     }
 }
 
-fn uid_in(rest: &str) -> Option<Pattern<'_>>
-    ensures { option_map spec.seen result ≡ spec.uid_by rest.now (spec.halves rest.now) }
+// What follows the first slash; nothing where there is none.
+fn behind(text: &str) -> &str
+    ensures { result.now ≡ spec.behind text.now }
 {
-    match halves(rest) {
-        None => Some(Pattern::ByUid(rest)),
-        Some(_) => None,
+    match halves(text) {
+        Some((_, rest)) => rest,
+        None => "",
     }
-}
-
-fn name_in(rest: &str) -> Option<Pattern<'_>>
-    ensures { option_map spec.seen result ≡ spec.kind_by (spec.halves rest.now) }
-{
-    let (kind, rest) = halves(rest)?;
-    let (namespace, name) = halves(rest)?;
-    match halves(name) {
-        None => Some(Pattern::ByName(kind, namespace, name)),
-        Some(_) => None,
-    }
-}
-
-fn mutation_in(rest: &str) -> Option<Pattern<'_>>
-    ensures { option_map spec.seen result ≡ spec.provider_by (spec.halves rest.now) }
-{
-    let (provider, form) = halves(rest)?;
-    let form = form_named(form)?;
-    Some(Pattern::Mutation(provider, form))
-}
-
-fn pattern_of(path: &str) -> Option<Pattern<'_>>
-    ensures { option_map spec.seen result ≡ spec.pattern_of path.now }
-{
-    if let Some(rest) = path.strip_prefix("/entities/by-uid/") {
-        return uid_in(rest);
-    }
-    if let Some(rest) = path.strip_prefix("/entities/by-name/") {
-        return name_in(rest);
-    }
-    if let Some(rest) = path.strip_prefix("/providers/") {
-        return mutation_in(rest);
-    }
-    None
 }
 
 // The text that a piece stands for.
@@ -168,35 +64,38 @@ fn decoded(alloc: Global, piece: &str) -> Result<Text, Refusal>
     }
 }
 
-fn named(alloc: Global, pattern: Pattern<'_>) -> Result<Resource, Refusal>
-    ensures ok { IfOk result (λ r. spec.named_by (spec.seen pattern.entry) ≡ Ok r) }
-    ensures err { IfErr result (λ e. (spec.named_by (spec.seen pattern.entry) ≡ Err e) ⊎ (e ≡ Refusal.NoMemory)) }
+fn name_in(alloc: Global, pieces: &str) -> Result<Resource, Refusal>
+    ensures ok { IfOk result (λ r. spec.name_in pieces.now ≡ Ok r) }
+    ensures err { IfErr result (λ e. (spec.name_in pieces.now ≡ Err e) ⊎ (e ≡ Refusal.NoMemory)) }
 {
-    match pattern {
-        Pattern::ByUid(uid) => Ok(Resource::ByUid(decoded(alloc, uid)?)),
-        Pattern::ByName(kind, namespace, name) => {
-            let kind = decoded(alloc, kind)?;
-            let namespace = decoded(alloc, namespace)?;
-            let name = decoded(alloc, name)?;
-            Ok(Resource::ByName(kind, namespace, name))
-        }
-        Pattern::Mutation(provider, form) => {
-            Ok(Resource::Mutation(decoded(alloc, provider)?, form))
-        }
+    let kind = decoded(alloc, front(pieces))?;
+    let namespace = decoded(alloc, front(behind(pieces)))?;
+    let name = decoded(alloc, front(behind(behind(pieces))))?;
+    Ok(Resource::ByName(kind, namespace, name))
+}
+
+// What a path with this route names.
+fn named(alloc: Global, route: Route, path: &str) -> Result<Resource, Refusal>
+    ensures ok { IfOk result (λ r. spec.named_by route path.now ≡ Ok r) }
+    ensures err { IfErr result (λ e. (spec.named_by route path.now ≡ Err e) ⊎ (e ≡ Refusal.NoMemory)) }
+{
+    let pieces = behind(behind(path));
+    match route {
+        Route::Fixed(fixed) => Ok(Resource::Fixed(fixed)),
+        Route::Mutation(form) => Ok(Resource::Mutation(decoded(alloc, front(pieces))?, form)),
+        Route::ByUid => Ok(Resource::ByUid(decoded(alloc, front(behind(pieces)))?)),
+        Route::ByName => name_in(alloc, behind(pieces)),
     }
 }
 
-/// What a path names. It is `Route` where no path fits, or where the percent escapes of a piece don't decode to UTF-8.
+/// What a path names. It is `Route` where no route fits, or where the percent escapes of a piece don't decode to UTF-8.
 #[tactic(auto, unfolding(crate::specs::Paths::resource_of))]
-pub fn resource_of(alloc: Global, path: &str) -> Result<Resource, Refusal>
+pub fn resource_of(alloc: Global, routes: &Routes, path: &str) -> Result<Resource, Refusal>
     ensures ok { IfOk result (λ r. spec.resource_of path.now ≡ Ok r) }
     ensures err { IfErr result (λ e. (spec.resource_of path.now ≡ Err e) ⊎ (e ≡ Refusal.NoMemory)) }
 {
-    if let Some(fixed) = fixed_named(path.as_bytes()) {
-        return Ok(Resource::Fixed(fixed));
-    }
-    match pattern_of(path) {
-        Some(pattern) => named(alloc, pattern),
+    match routes.route_of(path) {
+        Some(route) => named(alloc, route, path),
         None => Err(Refusal::Route),
     }
 }

@@ -5,8 +5,9 @@ ghost use Rattle.cat_requests.specs.Requests as spec;
 
 use crate::body::{many_of, reference_of};
 use crate::parameters::{parameters, values_named};
-use crate::path::{Fixed, Resource, resource_of};
+use crate::path::{Resource, resource_of};
 use crate::refusal::{Methods, Refusal, input_refusal, query_refusal};
+use crate::routes::{Fixed, Routes};
 use crate::uid::number_of_uid;
 use cat_feed::change::Since;
 use cat_feed::place::since_of;
@@ -314,11 +315,11 @@ fn asked(
 
 /// What a message asks for, or the first refusal that holds: of its path, its method, and what the request takes.
 #[tactic(auto, unfolding(crate::specs::Requests::request_of))]
-pub fn request_of(alloc: Global, message: &Message) -> Result<Request, Refusal>
+pub fn request_of(alloc: Global, routes: &Routes, message: &Message) -> Result<Request, Refusal>
     ensures ok { IfOk result (λ r. spec.request_of message.now ≡ Ok r) }
     ensures err { IfErr result (λ e. (spec.request_of message.now ≡ Err e) ⊎ (e ≡ Refusal.NoMemory)) }
     ensures ready { IfOk result spec.IsReady }
 {
-    let resource = resource_of(alloc, message.path.as_str())?;
+    let resource = resource_of(alloc, routes, message.path.as_str())?;
     asked(alloc, resource, verb_of(message.method.as_str()), message)
 }

@@ -1,22 +1,15 @@
 use Rattle.std.proofs.Common.{subst, sym}
 use Rattle.std.specs.Prelude.{IfOk, OnErr}
 use Rattle.cat_api.specs.Answering.{Answers, Lacks}
-use Rattle.cat_api.specs.Operations.{operation}
 use Rattle.cat_api.specs.Room.{IsBriefBy}
 use Rattle.cat_requests.specs.Requests.{request_of}
-use Rattle.cat_requests.specs.declared.answer.Answer.TheVariants.{Refused}
-use Rattle.cat_api.proofs.Brevity.{if_ok}
 use Rattle.cat_api.proofs.Lacking.{lacks_none}
-use Rattle.cat_api.proofs.Naming.{err_any, named_in, named_reply}
+use Rattle.cat_api.proofs.Always.{err_any}
 use Rattle.cat_api.proofs.answer.answer.Goals as goal
 
 pub returns-in-Ok-clause-ok : goal.returns-in-Ok-clause-ok
 returns-in-Ok-clause-ok g c =
     subst (λ a. IfOk c.carry_out.result (λ r. Answers g.D.Desk.acts g.D.Desk.asks g.D.FeedDesk.tells c.args.desk.now c.carry_out.new.desk a c.args.message.now r)) (sym c.in-Ok.ensures.ok) c.carry_out.ensures.ok
-
-pub returns-in-Ok-clause-named : goal.returns-in-Ok-clause-named
-returns-in-Ok-clause-named g c =
-    if_ok _ _ c.carry_out.result (λ r h. named_in g.D.Desk.acts g.D.Desk.asks g.D.FeedDesk.tells c.args.desk.now c.carry_out.new.desk (operation c.in-Ok.request) c.args.message.now r h) c.carry_out.ensures.ok
 
 pub returns-in-Ok-clause-brief : goal.returns-in-Ok-clause-brief
 returns-in-Ok-clause-brief g c = subst (λ a. IfOk c.carry_out.result (IsBriefBy a)) (sym c.in-Ok.ensures.ok) c.carry_out.ensures.brief
@@ -24,9 +17,6 @@ returns-in-Ok-clause-brief g c = subst (λ a. IfOk c.carry_out.result (IsBriefBy
 pub returns-in-Ok-clause-err : goal.returns-in-Ok-clause-err
 returns-in-Ok-clause-err g c =
     subst (λ a. OnErr c.carry_out.result (Lacks g.D.Desk.acts g.D.Desk.asks g.D.FeedDesk.tells c.args.desk.now c.carry_out.new.desk a)) (sym c.in-Ok.ensures.ok) c.carry_out.ensures.err
-
-pub returns-in-Err-clause-named : goal.returns-in-Err-clause-named
-returns-in-Err-clause-named g c = if_ok _ _ c.refused.result (λ r is. named_reply c.args.message.now (Refused c.in-Err.refusal) r is) c.refused.ensures.ok
 
 pub returns-in-Err-clause-err : goal.returns-in-Err-clause-err
 returns-in-Err-clause-err g c = err_any _ c.refused.result (lacks_none g.D.Desk.acts g.D.Desk.asks g.D.FeedDesk.tells c.args.desk.now (request_of c.args.message.now))

@@ -2,7 +2,7 @@ use Rattle.std.proofs.Common.{subst}
 use Rattle.std.specs.Prelude.{IfOk, OnErr}
 use Rattle.cat_api.specs.Answering.{Carries, LacksIn}
 use Rattle.cat_api.specs.Room.{IsBriefTo}
-use Rattle.cat_api.proofs.Naming.{if_any}
+use Rattle.cat_api.proofs.Always.{if_any}
 use Rattle.cat_api.proofs.answer.carry_out.Goals as goal
 
 pub returns-in-Act-clause-brief : goal.returns-in-Act-clause-brief

@@ -19,8 +19,8 @@ returns-in_err-reply-clause-err g c =
 pub returns-in_err-write_reply-clause-err : goal.returns-in_err-write_reply-clause-err
 returns-in_err-write_reply-clause-err g c =
     let p = err_from_is_err_and c.from_residual-in_err-write_reply.result c.from_residual-in_err-write_reply.ensures.1 in
-    rw p.1 (lacks_long g.D.Desk.acts g.D.Desk.asks g.D.FeedDesk.tells c.args.self.now.desk c.answer.new.desk (request_of c.args.message.now) c.args.message.now c.in_ok-reply.reply c.in_ok-reply.ensures.ok c.in_ok-reply.ensures.brief
-    (λ b. let short = reply_short c.in_ok-reply.reply c.in_ok-reply.ensures.named b in
+    rw p.1 (lacks_long g.D.Desk.acts g.D.Desk.asks g.D.FeedDesk.tells c.args.self.now.desk c.reply_of.new.self.desk (request_of c.args.message.now) c.args.message.now c.in_ok-reply.reply c.in_ok-reply.ensures.ok c.in_ok-reply.ensures.brief
+    (λ b. let short = reply_short c.in_ok-reply.reply b in
     omega (arith, short, c.in_err-write_reply.ensures.room, c.in_ok-out.ensures.exact, c.in_ok-out.ensures.len)))
 
 pub returns-clause-ok : goal.returns-clause-ok
