@@ -9,6 +9,7 @@ use crate::working::{Part, Working};
 use cat_api::service::Service;
 use cat_core::catalogue::{Done, Stitched};
 use cat_desk::timed_desk::TimedDesk;
+use cat_history::Limits;
 use cat_listener::{Doors, Ended, Helper, serve};
 use cat_plan::layers::Layers;
 use cat_shared::book::{Book, Named};
@@ -18,6 +19,12 @@ use std::alloc::{AllocError, Global};
 use std::marker::Brand;
 use std::sync::Wait;
 use std::thread::Threads;
+
+// How much of a book's journal is kept: so many entries, and of what was given so many bytes of text.
+const HISTORY: Limits = Limits {
+    entries: 100_000,
+    weight: 1 << 23,
+};
 
 /// How many serve and work at once.
 #[derive(Clone, Copy, Debug, PartialEq, Eq)]
@@ -127,7 +134,7 @@ fn host_under<
     ensures later { D.faults doors.old ≤ D.faults doors.new }
     ensures memory { OnErr result (doors.new ≡ doors.old) }
 {
-    let book: Book<L, B, N> = Book::new(alloc, desk);
+    let book: Book<L, B, N> = Book::new(alloc, desk, HISTORY);
     let Ok((turns, pass)) = Turns::new(alloc, book, crew.helpers()) else {
         return Err(AllocError);
     };

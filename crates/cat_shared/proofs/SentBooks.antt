@@ -3,7 +3,7 @@ use denote.Param.Send.{IsSend, IsSync, view_send, shr_send}
 use denote.Param.SendFields.{declared_send, declared_sync, variants_send}
 use denote.RattleType.{RattleType}
 use denote.Ref.{NamedLft}
-use Rattle.std.proofs.Crossing.{Box-send, Vec-send}
+use Rattle.std.proofs.Crossing.{Box-send}
 use Rattle.cat_types.specs.contracts.input.Mutation as Mutation
 use Rattle.cat_types.specs.contracts.parts.Parts as Parts
 use Rattle.cat_model.specs.contracts.types.Order as Order
@@ -29,6 +29,7 @@ use Rattle.cat_shared.specs.contracts.shared.SharedDesk as SharedDesk
 use Rattle.cat_desk.specs.declared.timed_desk.TimedDesk as TimedDesk
 use Rattle.cat_shared.specs.contracts.tells.BookTells.TheImpl as tells
 use Rattle.cat_shared.proofs.SentStates.{known, state_send, links_send, Map-send, Map-sync}
+use Rattle.cat_history.proofs.SentHistory.{History-send}
 use Rattle.cat_turns.proofs.SentTurns.{turns_sync, pass_send}
 
 -- ---- what was done
@@ -116,7 +117,7 @@ module _ (L : RattleType) (layers : Layers.Ghosts L.Denot) (l : IsSend L) where
 
 module _ (L B N : RattleType) (layers : Layers.Ghosts L.Denot) (timed : TimedDesk.Ghosts B.Denot L.Denot) (named : Named.Ghosts N.Denot) where
   pub book_send : IsSend L → IsSend B → IsSend N → IsSend (Book.the_row L B N layers timed named)
-  book_send l d n = declared_send (Book.the_type L B N layers timed named) (search (d, known) depth 20, (Vec-send Entry.the_row entry_send, (search (l, known) depth 60, (search (n, known) depth 60, tt))))
+  book_send l d n = declared_send (Book.the_type L B N layers timed named) (search (d, known) depth 20, (History-send Entry.the_row entry_send, (search (l, known) depth 60, (search (n, known) depth 60, tt))))
 
   module _ (a : NamedLft) (R : RattleType) where
     pub shared_send : IsSend (Book.the_row L B N layers timed named) → IsSync R → IsSend (SharedDesk.the_row a L B N R layers timed named)

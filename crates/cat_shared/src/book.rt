@@ -1,5 +1,5 @@
 //! A catalogue with a journal.
-ghost use Rattle.std.specs.Prelude.{◌≡◌, ◌≢◌, ◌⊎◌, ◌++◌, ◌+◌, ◌-◌, ◌^◌, ◌≤◌, List, ℕ, Some, [], IfOk, length, min};
+ghost use Rattle.std.specs.Prelude.{◌≡◌, ◌≢◌, ◌⊎◌, ◌++◌, ◌+◌, ◌-◌, ◌^◌, ◌<◌, ◌≤◌, List, ℕ, Some, [], IfOk, length, min};
 ghost use Rattle.std.specs.Coded.{Coded-set, coded_option};
 ghost use Rattle.cat_desk.specs.Asks.{AsksOnce};
 ghost use Rattle.cat_desk.specs.Deed.{deed_of};
@@ -21,6 +21,7 @@ use cat_desk::command::{Asked, Command, Reply};
 use cat_desk::feed_desk::FeedAnswer;
 use cat_desk::timed_desk::TimedDesk;
 use cat_feed::change::Since;
+use cat_history::{History, Limits};
 use cat_plan::layers::Layers;
 use cat_query::ask::Ask;
 use cat_search::index::Index;
@@ -49,37 +50,45 @@ impl Named for Brand {
     ghost faults = { 0 };
 }
 
-/// A catalogue with a clock and a feed, which may be kept in a store, and a journal of what was done to it. Its type keeps that the journal leads from
-/// the opening state to the present one, that what must hold between two events holds, and that as many commands of the journal weren't kept, or not
+/// A catalogue with a clock and a feed, which may be kept in a store, and a journal of what was done to it. Contracts see each entry of the journal, as
+/// `journal.all.items`; memory has the newest ones, and how many are gone is known. Its type keeps that the journal leads from the opening state to the present one, that what must hold between two events holds, and that as many commands of the journal weren't kept, or not
 /// all of them, as faults were counted since the book was made, at most.
 #[derive(Drop)]
 pub struct Book<L: Layers, B: TimedDesk<L>, N: Named> {
     desk: B,
-    journal: Vec<Entry>,
+    journal: History<Entry>,
     layers: PhantomData<L>,
     named: PhantomData<N>,
     pub ghost settings: { (B.ledger desk).settings ≡ N.settings },
-    pub ghost replayed: { replay L.rules N.settings N.opening journal.items ≡ Some (B.ledger desk).state } by { Coded-set (coded_option the_row.coded) _ _ },
+    pub ghost replayed: { replay L.rules N.settings N.opening journal.all.items ≡ Some (B.ledger desk).state } by { Coded-set (coded_option the_row.coded) _ _ },
     pub ghost sound: { ∥ Sound L.rules (B.ledger desk).state ∥₁ },
-    pub ghost counted: { min (N.faults + lost journal.items) (2 ^ 64 - 1) ≤ B.faults desk },
+    pub ghost counted: { min (N.faults + lost journal.all.items) (2 ^ 64 - 1) ≤ B.faults desk },
 }
 
 impl<L: Layers, B: TimedDesk<L>, N: Named> Book<L, B, N> {
-    /// A book of a catalogue, with an empty journal. It takes no memory.
-    pub fn new(alloc: Global, desk: B) -> Book<L, B, N>
+    /// A book of a catalogue, with an empty journal, of which so much is kept. It takes no memory.
+    pub fn new(alloc: Global, desk: B, limits: Limits) -> Book<L, B, N>
         requires settings { (B.ledger desk).settings ≡ N.settings }
         requires opening { (B.ledger desk).state ≡ N.opening }
         requires faults { B.faults desk ≡ N.faults }
         requires sound { Sound L.rules (B.ledger desk).state }
+        requires some { 0 < limits.entries }
         ensures desk { result.desk ≡ desk }
-        ensures journal { result.journal.items ≡ [] }
+        ensures journal { result.journal.all.items ≡ [] }
     {
         Book {
             desk,
-            journal: Vec::new(alloc),
+            journal: History::new(alloc, limits),
             layers: PhantomData,
             named: PhantomData,
         }
+    }
+
+    /// Gives the catalogue with its clock and its feed back. It takes no memory.
+    pub fn into_desk(self) -> B
+        ensures { result ≡ self.desk }
+    {
+        self.desk
     }
 
     /// Lends the catalogue with its clock and its feed.
@@ -89,11 +98,11 @@ impl<L: Layers, B: TimedDesk<L>, N: Named> Book<L, B, N> {
         &self.desk
     }
 
-    /// Lends the journal.
-    pub fn journal(&self) -> &[Entry]
-        ensures { result.now ≡ self.now.journal.items }
+    /// Lends the journal, of which just the newest entries are kept.
+    pub fn journal(&self) -> &History<Entry>
+        ensures { result.now ≡ self.now.journal }
     {
-        self.journal.as_slice()
+        &self.journal
     }
 
     /// The journal leads from the opening state to the present one, under the settings that the book began with, and what must hold between
@@ -101,36 +110,37 @@ impl<L: Layers, B: TimedDesk<L>, N: Named> Book<L, B, N> {
     /// isn't at the last value of a u64; so over a keeper that never fails there is none.
     pub fn leads(&self)
         ensures settings { (B.ledger self.now.desk).settings ≡ N.settings }
-        ensures replayed { replay L.rules N.settings N.opening self.now.journal.items ≡ Some (B.ledger self.now.desk).state }
+        ensures replayed { replay L.rules N.settings N.opening self.now.journal.all.items ≡ Some (B.ledger self.now.desk).state }
         ensures sound { ∥ Sound L.rules (B.ledger self.now.desk).state ∥₁ }
-        ensures counted { min (N.faults + lost self.now.journal.items) (2 ^ 64 - 1) ≤ B.faults self.now.desk }
+        ensures counted { min (N.faults + lost self.now.journal.all.items) (2 ^ 64 - 1) ≤ B.faults self.now.desk }
     {
         let _book = &self.desk;
     }
 
-    /// Does what a command says, under the number of a pass, and answers it. What is to be noted of it stands at the end of the
+    /// Does what a command of a weight says, under the number of a pass, and answers it. What is to be noted of it stands at the end of the
     /// journal; the room for that is taken first, and where there is none the command isn't done.
     pub fn act(
         &mut self,
         alloc: Global,
         pass: u64,
+        weight: u64,
         command: Command<Done<'_, L>, Stitched<'_, L>>,
     ) -> Reply
-        ensures acts { (Does L.rules pass (B.moment self.new.desk) (deed_of command.entry) (B.ledger self.old.desk) (B.ledger self.new.desk) self.old.journal.items self.new.journal.items result
+        ensures acts { (Does L.rules pass (B.moment self.new.desk) (deed_of command.entry) (B.ledger self.old.desk) (B.ledger self.new.desk) self.old.journal.all.items self.new.journal.all.items result
             × CountsReading (B.readings self.old.desk) (B.readings self.new.desk) × B.ticks self.old.desk self.new.desk)
-            ⊎ Lacks (deed_of command.entry) self.old.desk self.new.desk self.old.journal.items self.new.journal.items result }
+            ⊎ Lacks (deed_of command.entry) self.old.desk self.new.desk self.old.journal.all.items self.new.journal.all.items result }
         ensures feed { B.feed self.new.desk ≡ B.feed self.old.desk }
         ensures later { B.faults self.old.desk ≤ B.faults self.new.desk }
     {
         let Ok(reference) = worked(alloc, &command) else {
             return lacking(&command);
         };
-        if self.journal.reserve(1).is_err() {
+        if self.journal.reserve().is_err() {
             return lacking(&command);
         }
         let (now, reply) = self.desk.act_at(alloc, &command);
         if let Some(noted) = note(command, reference, now, &reply) {
-            self.journal.push_reserved(Entry { pass, noted });
+            self.journal.push(Entry { pass, noted }, weight);
         }
         reply
     }
@@ -142,7 +152,7 @@ impl<L: Layers, B: TimedDesk<L>, N: Named> Book<L, B, N> {
             × B.ticks self.old.desk self.new.desk) }
         ensures same { result ≢ Asked.Written → out.new.items ≡ out.old.items }
         ensures feed { B.feed self.new.desk ≡ B.feed self.old.desk }
-        ensures journal { self.new.journal.items ≡ self.old.journal.items }
+        ensures journal { self.new.journal.all.items ≡ self.old.journal.all.items }
     {
         self.desk.ask_at(alloc, ask, out)
     }
@@ -150,7 +160,7 @@ impl<L: Layers, B: TimedDesk<L>, N: Named> Book<L, B, N> {
     /// Prepares the catalogue for a question. Contracts see no difference.
     pub fn prepare(&mut self, alloc: Global, ask: &Ask)
         ensures ledger { B.ledger self.new.desk ≡ B.ledger self.old.desk }
-        ensures journal { self.new.journal.items ≡ self.old.journal.items }
+        ensures journal { self.new.journal.all.items ≡ self.old.journal.all.items }
     {
         self.desk.prepare(alloc, ask);
     }
@@ -168,7 +178,7 @@ impl<L: Layers, B: TimedDesk<L>, N: Named> Book<L, B, N> {
             × Tells (B.ledger self.old.desk).state.documents since (B.feed self.old.desk) (B.feed self.new.desk) result text }
         ensures same { result ≢ FeedAnswer.Written → out.new.items ≡ out.old.items }
         ensures ledger { B.ledger self.new.desk ≡ B.ledger self.old.desk }
-        ensures journal { self.new.journal.items ≡ self.old.journal.items }
+        ensures journal { self.new.journal.all.items ≡ self.old.journal.all.items }
     {
         self.desk.changes_since(alloc, since, out)
     }

@@ -8,14 +8,19 @@
 //! It carries the promise that all shares of a book have one history, in which each command that acted stands once, and whose replay is the
 //! catalogue.
 //!
-//! It stands on cat_desk for a catalogue with its clock and its feed, which a store may keep (`TimedDesk`), and on cat_turns for the turns. Why a
+//! The journal is whole in contracts alone. Memory has its newest entries, within the limits that are given when the book is made (`cat_history`), so a book
+//! that runs for years takes no more.
+//!
+//! It stands on cat_desk for a catalogue with its clock and its feed, which a store may keep (`TimedDesk`), on cat_history for the journal, and on cat_turns for the turns. Why a
 //! book and its shares may go to other threads stands in `proofs/SentBooks.antt`.
 #![tactic(auto)]
 
 pub mod book;
+pub mod closing;
 pub mod entry;
 mod notes;
 pub mod shared;
 mod tells;
+mod weight;
 mod work;
 mod works;

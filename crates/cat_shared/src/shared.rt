@@ -5,6 +5,7 @@ ghost use Rattle.cat_desk.specs.Shown.{is_shown};
 ghost use Rattle.cat_shared.specs.Shared.{SharedActs, SharedAsks, SharedTells};
 
 use crate::book::{Book, Named};
+use crate::weight::weight;
 use crate::work::at_turn;
 use crate::works::{Acting, Asking, Copying, Telling};
 use cat_core::catalogue::{Done, Stitched};
@@ -91,6 +92,7 @@ impl<'a, 'b, L: Layers, B: TimedDesk<L>, N: Named, R: Wait> Desk<Done<'b, L>, St
         let acting = Acting {
             alloc,
             number: self.pass.number(),
+            weight: weight(&command),
             command,
         };
         at_turn(self.rt, self.turns, &mut self.pass, acting)

@@ -12,11 +12,11 @@ impl<L: Layers, B: TimedDesk<L>, N: Named> Tells for Book<L, B, N> {
 
     type Entry = Entry;
 
-    ghost list = { λ book. book.journal.items };
+    ghost list = { λ book. book.journal.all.items };
 
     ghost pass_of = { pass_of };
 
     fn entries(&self) -> u64 {
-        self.journal().len() as u64
+        self.journal().len()
     }
 }

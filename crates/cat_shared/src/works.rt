@@ -19,22 +19,23 @@ use cat_query::ask::Ask;
 use cat_search::index::Index;
 use std::alloc::{AllocError, Global};
 
-/// A command is done under the number of a pass.
+/// A command of a weight is done under the number of a pass.
 #[derive(Drop)]
 pub(crate) struct Acting<'b, L: Layers> {
     pub alloc: Global,
     pub number: u64,
+    pub weight: u64,
     pub command: Command<Done<'b, L>, Stitched<'b, L>>,
 }
 
 impl<'b, L: Layers, B: TimedDesk<L>, N: Named> Work<Book<L, B, N>> for Acting<'b, L> {
     type Answer = Reply;
 
-    ghost does = { λ work before after reply. Does L.rules work.number (B.moment after.desk) (deed_of work.command) (B.ledger before.desk) (B.ledger after.desk) before.journal.items after.journal.items reply
-        ⊎ Lacks (deed_of work.command) before.desk after.desk before.journal.items after.journal.items reply };
+    ghost does = { λ work before after reply. Does L.rules work.number (B.moment after.desk) (deed_of work.command) (B.ledger before.desk) (B.ledger after.desk) before.journal.all.items after.journal.all.items reply
+        ⊎ Lacks (deed_of work.command) before.desk after.desk before.journal.all.items after.journal.all.items reply };
 
     fn on(self, book: &mut Book<L, B, N>) -> Reply {
-        book.act(self.alloc, self.number, self.command)
+        book.act(self.alloc, self.number, self.weight, self.command)
     }
 }
 
@@ -51,7 +52,7 @@ impl<'c, L: Layers, B: TimedDesk<L>, N: Named> Work<Book<L, B, N>> for Asking<'c
 
     ghost does = { λ work before after answer. (text : List ℕ) × (answer.1.items ≡ work.out.items ++ text)
         × AsksOnce (B.moment after.desk) (B.readings before.desk) (B.readings after.desk) work.ask.now (B.ledger before.desk) (B.ledger after.desk) answer.0 text
-        × (answer.0 ≢ asked.Written → answer.1.items ≡ work.out.items) × (after.journal.items ≡ before.journal.items) };
+        × (answer.0 ≢ asked.Written → answer.1.items ≡ work.out.items) × (after.journal.all.items ≡ before.journal.all.items) };
 
     fn on(self, book: &mut Book<L, B, N>) -> (Asked, Vec<u8>) {
         let mut out = self.out;
@@ -70,7 +71,7 @@ pub(crate) struct Copying<'c> {
 impl<'c, L: Layers, B: TimedDesk<L>, N: Named> Work<Book<L, B, N>> for Copying<'c> {
     type Answer = Result<Index, AllocError>;
 
-    ghost does = { λ work before after answer. IfOk answer (λ m. m ≡ (B.ledger before.desk).state.documents) × (after.journal.items ≡ before.journal.items) };
+    ghost does = { λ work before after answer. IfOk answer (λ m. m ≡ (B.ledger before.desk).state.documents) × (after.journal.all.items ≡ before.journal.all.items) };
 
     fn on(self, book: &mut Book<L, B, N>) -> Result<Index, AllocError> {
         book.prepare(self.alloc, self.ask);
@@ -91,11 +92,23 @@ impl<L: Layers, B: TimedDesk<L>, N: Named> Work<Book<L, B, N>> for Telling {
 
     ghost does = { λ work before after answer. (text : List ℕ) × (answer.1.items ≡ work.out.items ++ text)
         × Tells (B.ledger before.desk).state.documents work.since (B.feed before.desk) (B.feed after.desk) answer.0 text
-        × (answer.0 ≢ told.Written → answer.1.items ≡ work.out.items) × (after.journal.items ≡ before.journal.items) × (B.ledger after.desk ≡ B.ledger before.desk) };
+        × (answer.0 ≢ told.Written → answer.1.items ≡ work.out.items) × (after.journal.all.items ≡ before.journal.all.items) × (B.ledger after.desk ≡ B.ledger before.desk) };
 
     fn on(self, book: &mut Book<L, B, N>) -> (FeedAnswer, Vec<u8>) {
         let mut out = self.out;
         let told = book.changes(self.alloc, self.since, &mut out);
         (told, out)
     }
+}
+
+/// Nothing is done: the pass has then seen the whole journal.
+#[derive(Drop)]
+pub(crate) struct Looking;
+
+impl<L: Layers, B: TimedDesk<L>, N: Named> Work<Book<L, B, N>> for Looking {
+    type Answer = ();
+
+    ghost does = { λ work before after answer. after.journal.all.items ≡ before.journal.all.items };
+
+    fn on(self, _book: &mut Book<L, B, N>) {}
 }

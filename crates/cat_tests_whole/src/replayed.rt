@@ -7,6 +7,7 @@ use cat_core::fault::CoreFault;
 use cat_desk::command::{Command, Reply};
 use cat_desk::desk::Desk;
 use cat_dispatcher::Share;
+use cat_history::History;
 use cat_inputs::form::Form;
 use cat_inputs::input::read_mutation;
 use cat_layers::layered::Layered;
@@ -303,10 +304,10 @@ struct Comparison {
 }
 
 // How many inputs stand in a journal.
-fn inputs_in(journal: &[Entry]) -> u64 {
+fn inputs_in(journal: &History<Entry>) -> u64 {
     let mut inputs = 0u64;
-    for entry in journal {
-        if matches!(entry.noted, Noted::Acted(..)) {
+    for place in 0..journal.kept() {
+        if let Some(entry) = journal.at(place) && matches!(entry.noted, Noted::Acted(..)) {
             inputs = inputs.saturating_add(1);
         }
     }
@@ -317,18 +318,21 @@ fn inputs_in(journal: &[Entry]) -> u64 {
 fn played_on(
     alloc: Global,
     player: &mut Player,
-    journal: &[Entry],
+    journal: &History<Entry>,
 ) -> Result<Option<Vec<u8>>, Fail> {
-    for entry in journal {
-        if !player.play(alloc, &entry.noted)? {
+    for place in 0..journal.kept() {
+        if let Some(entry) = journal.at(place) && !player.play(alloc, &entry.noted)? {
             return Ok(None);
         }
     }
     Ok(Some(shown(alloc, player.catalogue.view())?))
 }
 
-// What a catalogue has that played a journal again, if it could be played.
-fn played(alloc: Global, journal: &[Entry]) -> Result<Option<Vec<u8>>, Fail> {
+// What a catalogue has that played a journal again, if nothing of it is gone and it could be played.
+fn played(alloc: Global, journal: &History<Entry>) -> Result<Option<Vec<u8>>, Fail> {
+    if journal.gone() > 0 {
+        return Ok(None);
+    }
     let mut player = Player::new(alloc);
     let text = played_on(alloc, &mut player, journal);
     drop(player);

@@ -7,6 +7,7 @@ use cat_desk::desk::Desk;
 use cat_desk::fed::Fed;
 use cat_desk::timed::Timed;
 use cat_dispatcher::Share;
+use cat_history::Limits;
 use cat_inputs::form::Form;
 use cat_inputs::input::read_mutation;
 use cat_io::FixedClock;
@@ -93,12 +94,16 @@ impl Gate for Meeting {
 }
 
 pub(crate) fn empty_book(alloc: Global) -> Pages
-    ensures { result.journal.items ≡ [] }
+    ensures { result.journal.all.items ≡ [] }
 {
     sound_is_kept();
     let catalogue = Catalogue::empty(alloc, Layered, settings(OrphanRule::Keep));
     let timed = Timed::new(catalogue, FixedClock::at(0));
-    Book::new(alloc, Fed::new(alloc, timed, 0))
+    let limits = Limits {
+        entries: 4096,
+        weight: 1 << 20,
+    };
+    Book::new(alloc, Fed::new(alloc, timed, 0), limits)
 }
 
 /// The desks of two workers, each at a seat of its own.

@@ -14,14 +14,14 @@ invariant_of-self-in-Some g c =
     let now = desk.moment c.act_at-now.new.self in
     let d = deed_of c.args.command in
     let reply = c.act_at-now.result.1 in
-    let after = c.push_reserved.new.self.items in
-    let does = does_noted rules c.args.pass now d was is old.journal.items reply c.act_at-now.ensures.acts c.act_at-now.result.0 c.note.result c.in-Some.noted c.reserve.new.self.items after
-    c.act_at-now.ensures.moment c.in-Some.is c.note.ensures c.reserve.ensures.items c.push_reserved.ensures.items in
+    let after = c.push.new.self.all.items in
+    let does = does_noted rules c.args.pass now d was is old.journal.all.items reply c.act_at-now.ensures.acts c.act_at-now.result.0 c.note.result c.in-Some.noted c.reserve.new.self.all.items after
+    c.act_at-now.ensures.moment c.in-Some.is c.note.ensures c.reserve.ensures.all c.push.ensures.all in
     record {
-      settings = does_settings rules named.settings named.opening c.args.pass now d was is old.journal.items after reply does ∙ old.settings;
-      replayed = does_replay rules named.settings named.opening c.args.pass now d was is old.journal.items after reply does old.settings old.sound old.replayed;
-      sound = does_sound rules named.settings named.opening c.args.pass now d was is old.journal.items after reply does old.sound;
-      counted = does_counted rules named.settings named.opening c.args.pass now d was is old.journal.items after reply does named.faults (desk.faults old.desk) (desk.faults c.act_at-now.new.self)
+      settings = does_settings rules named.settings named.opening c.args.pass now d was is old.journal.all.items after reply does ∙ old.settings;
+      replayed = does_replay rules named.settings named.opening c.args.pass now d was is old.journal.all.items after reply does old.settings old.sound old.replayed;
+      sound = does_sound rules named.settings named.opening c.args.pass now d was is old.journal.all.items after reply does old.sound;
+      counted = does_counted rules named.settings named.opening c.args.pass now d was is old.journal.all.items after reply does named.faults (desk.faults old.desk) (desk.faults c.act_at-now.new.self)
           old.counted c.act_at-now.ensures.later c.act_at-now.ensures.cause;
     }
 
@@ -36,13 +36,13 @@ invariant_of-self-in_default-note g c =
     let now = desk.moment c.act_at-now.new.self in
     let d = deed_of c.args.command in
     let reply = c.act_at-now.result.1 in
-    let after = c.reserve.new.self.items in
-    let does = does_unnoted rules c.args.pass now d was is old.journal.items reply c.act_at-now.ensures.acts c.act_at-now.result.0 c.note.result after
-    c.act_at-now.ensures.moment c.in_default-note.is c.note.ensures c.reserve.ensures.items in
+    let after = c.reserve.new.self.all.items in
+    let does = does_unnoted rules c.args.pass now d was is old.journal.all.items reply c.act_at-now.ensures.acts c.act_at-now.result.0 c.note.result after
+    c.act_at-now.ensures.moment c.in_default-note.is c.note.ensures c.reserve.ensures.all in
     record {
-      settings = does_settings rules named.settings named.opening c.args.pass now d was is old.journal.items after reply does ∙ old.settings;
-      replayed = does_replay rules named.settings named.opening c.args.pass now d was is old.journal.items after reply does old.settings old.sound old.replayed;
-      sound = does_sound rules named.settings named.opening c.args.pass now d was is old.journal.items after reply does old.sound;
-      counted = does_counted rules named.settings named.opening c.args.pass now d was is old.journal.items after reply does named.faults (desk.faults old.desk) (desk.faults c.act_at-now.new.self)
+      settings = does_settings rules named.settings named.opening c.args.pass now d was is old.journal.all.items after reply does ∙ old.settings;
+      replayed = does_replay rules named.settings named.opening c.args.pass now d was is old.journal.all.items after reply does old.settings old.sound old.replayed;
+      sound = does_sound rules named.settings named.opening c.args.pass now d was is old.journal.all.items after reply does old.sound;
+      counted = does_counted rules named.settings named.opening c.args.pass now d was is old.journal.all.items after reply does named.faults (desk.faults old.desk) (desk.faults c.act_at-now.new.self)
           old.counted c.act_at-now.ensures.later c.act_at-now.ensures.cause;
     }

@@ -10,11 +10,11 @@ returns g c =
     record {
       acts = record {
         same = c.at_turn.ensures.same;
-        journal = before.journal.items;
+        journal = before.journal.all.items;
         state = (g.B.TimedDesk.ledger before.desk).state;
         finds = record { grown = a.2; replayed = before.replayed };
         done = shared_done g.L.Layers.rules g.N.Named.settings g.N.Named.opening c.args.self.now.pass.number c.number.result (g.B.TimedDesk.moment after.desk) (deed_of c.args.command)
-            (g.B.TimedDesk.ledger before.desk) (g.B.TimedDesk.ledger after.desk) before.desk after.desk before.journal.items after.journal.items c.at_turn.new.pass.seen c.at_turn.result
+            (g.B.TimedDesk.ledger before.desk) (g.B.TimedDesk.ledger after.desk) before.desk after.desk before.journal.all.items after.journal.all.items c.at_turn.new.pass.seen c.at_turn.result
             c.number.ensures before.settings after.settings a.4 after.replayed a.3;
       };
     }
