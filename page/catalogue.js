@@ -5,7 +5,8 @@ import { address, parts, refIn, resolved, shortName } from "./refs.js";
 import { get, headers } from "./server.js";
 
 const EVERY = 2000;
-const FIELDS = "kind,metadata.namespace,metadata.name,metadata.title,metadata.description,metadata.tags,spec.type,spec.lifecycle,spec.owner,spec.profile.displayName";
+const METADATA = ["namespace", "name", "title", "description", "tags"].map((key) => `metadata.${key}`);
+const FIELDS = `kind,${METADATA},spec.type,spec.lifecycle,spec.owner,spec.profile.displayName`;
 
 // Rows by reference; whether all are there; what changed, the newest first; why the server isn't heard.
 export const catalogue = { rows: new Map(), whole: false, total: 0, version: 0, recent: [], trouble: undefined };
@@ -14,7 +15,6 @@ const listeners = new Set();
 let place;
 let waiting;
 
-// Calls a listener at changes, until the answer is called.
 export function listen(listener) {
   listeners.add(listener);
   return () => listeners.delete(listener);
@@ -26,7 +26,7 @@ function tell() {
   waiting ??= setTimeout(() => {
     waiting = undefined;
     for (const listener of listeners) listener();
-  }, catalogue.version > 1 ? 250 : 0);
+  }, 200);
 }
 
 const text = (value) => (typeof value === "string" ? value : "");
@@ -60,8 +60,10 @@ const presentPlace = () => new Promise((done) => {
   worker.postMessage(headers());
 });
 
+// The first question is for the token, which the worker can't ask for.
 async function load() {
   let cursor = "";
+  await get("/entities/by-query?limit=1&fields=kind");
   place = await presentPlace();
   catalogue.rows.clear();
   do {
@@ -86,7 +88,6 @@ async function follow(since, time) {
   if (changes.length > 0) tell();
 }
 
-// Loads all, and then the last changes of before.
 async function begin() {
   await load();
   const [epoch, last] = place.split(".");

@@ -1,10 +1,7 @@
 // Elements of the page. Whatever comes from the catalogue becomes a text node, never markup.
 
-const FOLLOWED = ["http:", "https:", "mailto:"];
-
 export const find = (id) => document.getElementById(id);
 
-// A copy of what stands ready in the document under an id.
 export const ready = (id) => find(id).content.cloneNode(true);
 
 const maker = (space) => (tag, ...rest) => {
@@ -23,7 +20,7 @@ const maker = (space) => (tag, ...rest) => {
 
 const shownOf = (children) => children.flat(9).filter((child) => child || child === 0);
 
-// An element by its tag and classes, with attributes (a function listens to the event of its name) and children.
+// An element by tag and classes, with attributes (a function listens to its event) and children.
 export const h = maker("http://www.w3.org/1999/xhtml");
 export const svg = maker("http://www.w3.org/2000/svg");
 
@@ -37,7 +34,7 @@ export function show(node, ...children) {
 // A link where its scheme is safe to follow; else text alone.
 export function outside(address, text) {
   const url = URL.canParse(address) && new URL(address);
-  if (!url || !FOLLOWED.includes(url.protocol)) return h("span", text === address ? text : `${text} (${address})`);
+  if (!url || !["http:", "https:", "mailto:"].includes(url.protocol)) return h("span", text === address ? text : `${text} (${address})`);
   return h("a", { href: url.href, target: "_blank", rel: "noopener noreferrer" }, text);
 }
 
@@ -47,14 +44,14 @@ export const counted = (n, one, many = `${one}s`) => `${number(n)} ${n === 1 ? o
 
 export const section = (title, ...children) => h("section", h("h2", title), children);
 
-// A list of which 50 are shown, with buttons to the others.
 export function paged(label, list, item) {
   const box = h("div.paged");
   const draw = (first) => {
     const end = Math.min(first + 50, list.length);
     const to = (text, start) => h("button", { id: `${label} ${text}`, disabled: start < 0 || start >= list.length, click: () => draw(start) }, text);
     show(box, h("ol.rows", { "aria-label": label }, list.slice(first, end).map(item)),
-      list.length > 50 && h("p.pager", to("Back", first - 50), h("span", `${number(first + 1)} to ${number(end)} of ${number(list.length)}`), to("Next", first + 50)));
+      list.length > 50 && h("p.pager",
+        to("Back", first - 50), h("span", `${number(first + 1)} to ${number(end)} of ${number(list.length)}`), to("Next", first + 50)));
   };
   draw(0);
   return box;

@@ -16,7 +16,8 @@ const written = (value) => (typeof value === "string" ? value : JSON.stringify(v
 
 async function refresh(entityRef) {
   const notice = find("notice");
-  notice.textContent = await post("/refresh", { entityRef }).then(() => "It is due again. What changes appears here by itself.", ({ message }) => `It can't be refreshed: ${message}.`);
+  notice.textContent = await post("/refresh", { entityRef })
+    .then(() => "It is due again; what changes appears here.", ({ message }) => `It can't be refreshed: ${message}.`);
   notice.hidden = false;
 }
 
@@ -62,25 +63,22 @@ function overview(ref, entity) {
   for (const type of [...ASIDE, ...groups]) types.delete(type);
   return h("div.split.entity", h("div",
     alarm("What is wrong with it", (status?.items ?? []).map(problem)), later(contests(ref)),
-    metadata.annotations?.["backstage.io/orphan"] === "true" && h("p.alarm", "It is an orphan: what it came from doesn't list it any more."),
+    metadata.annotations?.["backstage.io/orphan"] === "true" && h("p.alarm", "It is an orphan: what it came from lists it no more."),
     metadata.description && h("p.description", written(metadata.description)), groups.length > 0 && later(groupSections(ref)),
     [...types].map((type) => [headingOf(type), targets(entity, type)]).filter(([, refs]) => refs.length > 0)
       .map(([title, refs]) => listed(title, refs, (other) => h("li", link(other))))), about(ref, entity));
 }
 
-const source = (text) => h("pre", { tabindex: 0 }, text);
-
 const TABS = {
   Overview: overview,
   Graph: (ref, entity, options) => later(graph(ref, options)),
-  YAML: (ref, entity) => source(yaml(entity)),
-  JSON: (ref, entity) => source(JSON.stringify(entity, null, 2)),
+  YAML: (ref, entity) => h("pre", { tabindex: 0 }, yaml(entity)),
+  JSON: (ref, entity) => h("pre", { tabindex: 0 }, JSON.stringify(entity, null, 2)),
 };
 
-// The entity that was read last.
 let read = {};
 
-// Shows the entity of an address, or why it has no document, until the page is left.
+// Shows the entity of an address, or why it has no document.
 export async function entityPage(box, options, words) {
   const ref = refOf(...words);
   const tab = TABS[options.get("tab")] ? options.get("tab") : "Overview";
@@ -93,7 +91,8 @@ export async function entityPage(box, options, words) {
     const { entity } = read;
     if (entity) return show(box, head(ref, entity, tab), TABS[tab](ref, entity, options));
     const failed = (await get("/failed")).find(({ entityRef }) => entityRef === ref);
-    return show(box, head(ref), failed ? alarm("It has no document, since it was never processed well", failed.items.map(problem)) : "Nothing in the catalogue has this reference.");
+    return show(box, head(ref), failed
+      ? alarm("It has no document, since it was never processed well", failed.items.map(problem)) : "Nothing in the catalogue has this reference.");
   };
   await draw();
   return listen(() => isOld() && draw());

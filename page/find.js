@@ -19,9 +19,8 @@ export const result = (row) => h("li.result",
 function facet(name, query, counts) {
   const chosen = query.chosen.get(name) ?? new Set();
   const values = foremost(counts, PAGE);
-  const item = ([value, n]) => h("li", h("label",
-    h("input", { type: "checkbox", id: `${name}=${value}`, checked: chosen.has(value), change: () => { location.hash = addressOf(toggled(query, name, value)); } }),
-    h("span.value", shown(name, value)), h("span.n", number(n))));
+  const item = ([value, n]) => h("li", h("label", { change: () => { location.hash = addressOf(toggled(query, name, value)); } },
+    h("input", { type: "checkbox", id: `${name}=${value}`, checked: chosen.has(value) }), h("span.value", shown(name, value)), h("span.n", number(n))));
   return values.length > 0 && h("fieldset", h("legend", FACETS[name]), h("ul", values.map(item)));
 }
 
@@ -36,7 +35,8 @@ function order(query) {
 function pager(query, total) {
   const last = Math.ceil(total / PAGE);
   const to = (page, text) => (page < 1 || page > last ? h("span", text) : h("a", { href: addressOf({ ...query, page }) }, text));
-  return last > 1 && h("nav.pager", { "aria-label": "Pages of results" }, to(query.page - 1, "Back"), h("span", `Page ${number(query.page)} of ${number(last)}`), to(query.page + 1, "Next"));
+  return last > 1 && h("nav.pager", { "aria-label": "Pages of results" },
+    to(query.page - 1, "Back"), h("span", `Page ${number(query.page)} of ${number(last)}`), to(query.page + 1, "Next"));
 }
 
 function nothing() {
@@ -45,7 +45,7 @@ function nothing() {
   return text;
 }
 
-// Shows the results of the query in the address, until the page is left.
+// Shows the results of the query in the address.
 export function findPage(box, options) {
   const query = queryOf(options);
   const field = find("query");

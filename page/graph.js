@@ -1,4 +1,4 @@
-// What is around an entity, as a graph: on its left what points to it, on its right what it points to.
+// A graph of what is around an entity: on its left what points to it, on its right what it points to.
 
 import { titleOf } from "./catalogue.js";
 import { counted, h, svg } from "./dom.js";
@@ -33,7 +33,6 @@ class Graph {
     return isNew;
   }
 
-  // Takes in what is so many steps away.
   async grow(front, steps) {
     const found = await around(front);
     const next = front.flatMap((ref, i) => {
@@ -43,7 +42,7 @@ class Graph {
     if (next.length > 0) await this.grow(next, steps - 1);
   }
 
-  // Gives each node its place, and answers the size of the picture.
+  // Gives each node its place; answers the size.
   arrange() {
     const columns = Map.groupBy(this.nodes.values(), ({ column }) => column);
     const least = Math.min(...columns.keys());
@@ -58,20 +57,22 @@ class Graph {
 function box(ref, { x, y, missing }, start) {
   const { kind } = parts(ref);
   const title = titleOf(ref);
-  return svg("a", { href: address(ref, "?tab=Graph"), class: `node ${kind} ${ref === start && "start"} ${missing && "missing"}`, "aria-label": ref + (missing ? ", which isn't in the catalogue" : "") },
+  const label = ref + (missing ? ", which isn't in the catalogue" : "");
+  return svg("a", { href: address(ref, "?tab=Graph"), class: `node ${kind} ${ref === start && "start"} ${missing && "missing"}`, "aria-label": label },
     svg("title", ref), svg("rect", { x, y, width: WIDTH, height: HEIGHT, rx: 6 }), svg("rect.side", { x, y, width: 5, height: HEIGHT, rx: 2 }),
     svg("text", { x: x + 14, y: y + 16 }, title.length > 22 ? `${title.slice(0, 21)}…` : title), svg("text.small", { x: x + 14, y: y + 30 }, kindName(kind)));
 }
 
-// A line to the next column, back, or round within one column.
+// A line on, back, or round within a column.
 function line(name, { type, from, to }, nodes) {
   const [a, b] = [nodes.get(from), nodes.get(to)];
   const [out, into] = [a.x <= b.x, a.x < b.x];
   const [x1, y1, x2, y2] = [a.x + out * WIDTH, a.y + HEIGHT / 2, b.x + !into * WIDTH, b.y + HEIGHT / 2];
-  return svg(`path.edge.${type}`, { d: `M${x1} ${y1}C${x1 + (out ? 45 : -45)} ${y1} ${x2 + (into ? -45 : 45)} ${y2} ${x2} ${y2}`, "marker-end": "url(#arrow)" }, svg("title", name));
+  const d = `M${x1} ${y1}C${x1 + (out ? 45 : -45)} ${y1} ${x2 + (into ? -45 : 45)} ${y2} ${x2} ${y2}`;
+  return svg(`path.edge.${type}`, { d, "marker-end": "url(#arrow)" }, svg("title", name));
 }
 
-// The picture with what chooses its steps and relations, as the address says them.
+// The picture, and what chooses its steps and relations.
 export async function graph(ref, options) {
   const steps = Math.min(3, Math.max(1, Number(options.get("steps")) || 1));
   const hidden = options.getAll("without");
@@ -90,6 +91,7 @@ export async function graph(ref, options) {
     [...edges].map(([name, edge]) => line(name, edge, nodes)), [...nodes].map(([other, node]) => box(other, node, ref)));
   const frame = h("div.frame", { tabindex: 0, role: "region", "aria-label": "Graph" }, picture);
   requestAnimationFrame(() => { frame.scrollLeft = nodes.get(ref).x - (frame.clientWidth - WIDTH) / 2; });
-  return [h("div.bar", h("span.steps", "Steps ", [1, 2, 3].map((n) => h("a", { href: there(n, hidden), "aria-current": n === steps && "true" }, n))), [...types].sort().map(key)),
-    frame, left.size > 0 && h("p.status", `${left.size} more have no room here; the overviews list them.`)];
+  const step = (n) => h("a", { href: there(n, hidden), "aria-current": n === steps && "true" }, n);
+  return [h("div.bar", h("span.steps", "Steps ", [1, 2, 3].map(step)), [...types].sort().map(key)), frame,
+    left.size > 0 && h("p.status", `${left.size} more have no room here; the overviews list them.`)];
 }

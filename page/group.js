@@ -32,7 +32,8 @@ async function above(ref, group) {
 function branch(ref, groups, path) {
   const group = groups.get(ref);
   const children = targets(group, "parentOf").filter((child) => groups.has(child) && !path.includes(child));
-  return h("li", link(ref), h("span.facts", group ? ` ${counted(targets(group, "hasMember").length, "member")} · owns ${targets(group, "ownerOf").length}` : " isn't in the catalogue"),
+  const [members, owned] = ["hasMember", "ownerOf"].map((type) => targets(group, type).length);
+  return h("li", link(ref), h("span.facts", group ? ` ${counted(members, "member")} · owns ${owned}` : " isn't in the catalogue"),
     children.length > 0 && h("ul", children.map((child) => branch(child, groups, [...path, ref]))));
 }
 
@@ -41,7 +42,8 @@ function owned(ref, groups) {
   const draw = (all) => {
     const refs = [...new Set((all ? [...groups.values()] : [groups.get(ref)]).flatMap((group) => targets(group, "ownerOf")))].sort();
     const kinds = Object.entries(Object.groupBy(refs, (other) => kindName(other.split(":")[0])));
-    show(box, groups.size > 1 && h("label", h("input", { type: "checkbox", id: "through", checked: all, change: () => draw(!all) }), " also through the groups below it"),
+    show(box, groups.size > 1 &&
+      h("label", { change: () => draw(!all) }, h("input", { type: "checkbox", id: "through", checked: all }), " also through the groups below it"),
       h("p.status", { role: "status" }, kinds.map(([kind, { length }]) => counted(length, kind)).join(" · ") || "Nothing."),
       refs.length > 0 && paged("What it owns", refs, (other) => result(rowFor(other))));
   };

@@ -20,7 +20,7 @@ function here() {
   return { name, words, options: new URLSearchParams(options) };
 }
 
-// Shows what the address says. A page fills a box, and answers how to leave it.
+// Shows what the address says.
 async function showAddress() {
   const { name, words, options } = here();
   const page = Object.hasOwn(PAGES, name) ? PAGES[name] : findPage;
@@ -44,7 +44,6 @@ async function showAddress() {
   return main.querySelector(":focus:not(h1)") ?? scrollTo(0, 0);
 }
 
-// What is typed becomes the address at once.
 field.addEventListener("input", () => {
   const { name, options } = here();
   const next = addressOf({ ...queryOf(name ? new URLSearchParams() : options), q: field.value, page: 1 });

@@ -1,4 +1,4 @@
-// Where an entity comes from: the text that it stands in, the Location that names this text, and so on up to a provider.
+// Where an entity comes from: the text that it stands in, the Location that names it, and so on up to a provider.
 
 import { link } from "./catalogue.js";
 import { h } from "./dom.js";
@@ -7,7 +7,6 @@ import { get } from "./server.js";
 
 const textOf = ({ metadata }) => metadata.annotations?.["backstage.io/managed-by-location"] ?? "";
 
-// The name of the text that a target stands for, by the type and the address of its base.
 function named(type, target, base) {
   if (type === "file") return decodeURI(new URL(target, `file://${base}`).href).replace("file://", "file:");
   return `${type}:${type === "url" && URL.canParse(target, base) ? new URL(target, base).href : target}`;
@@ -19,7 +18,6 @@ function isNamedBy(text, location) {
   return [target, ...targets].some((other) => typeof other === "string" && named(type, other, type === from ? base : "/") === text);
 }
 
-// A sentence for each step from the entity up.
 export async function origins(ref, entity) {
   const lines = [];
   const seen = new Set([ref]);

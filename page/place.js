@@ -1,5 +1,5 @@
-// A worker that learns where the feed is without asking for all documents: a place ahead of it is refused with its own. Browsers
-// show what is refused to a page as an error of the page, and what is refused to a worker not.
+// Learns where the feed is without its documents: a place ahead of it is refused with its own. It is a worker, since a browser
+// shows what is refused to a page as an error.
 
 const LAST = "18446744073709551615";
 

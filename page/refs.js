@@ -26,8 +26,9 @@ export function shortName(ref) {
   return namespace === "default" ? name : `${namespace}/${name}`;
 }
 
-// In the order of the page: each relation's heading, and the one of its pair that points away.
-export const RELATIONS = Object.fromEntries([...find("relations").content.children].map(({ dataset, textContent }) => [dataset.type, [textContent, dataset.onward]]));
+// Each relation's heading, and the one of its pair that points away.
+const told = [...find("relations").content.children];
+export const RELATIONS = Object.fromEntries(told.map(({ dataset, textContent }) => [dataset.type, [textContent, dataset.onward]]));
 
 export const headingOf = (type) => RELATIONS[type]?.[0] ?? type;
 

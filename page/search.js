@@ -1,16 +1,13 @@
-// Search over what is in memory: words, facets and orders. It knows nothing of the page.
+// Search over what is in memory: words, facets and orders.
 
 export const FACETS = { kind: "Kind", type: "Type", lifecycle: "Lifecycle", owner: "Owner", tags: "Tag" };
-
-const ORDERS = ["best", "name", "kind", "type", "owner"];
 
 const NAMES = Object.keys(FACETS);
 
 // What an address says.
 export function queryOf(options) {
   const chosen = new Map(NAMES.map((facet) => [facet, new Set(options.getAll(facet))]).filter(([, { size }]) => size > 0));
-  const order = options.get("order");
-  return { q: options.get("q") ?? "", chosen, order: ORDERS.includes(order) ? order : "best", page: Math.max(1, Math.trunc(options.get("page")) || 1) };
+  return { q: options.get("q") ?? "", chosen, order: options.get("order") ?? "best", page: Math.max(1, Math.trunc(options.get("page")) || 1) };
 }
 
 export function addressOf({ q, chosen, order, page }) {
@@ -22,8 +19,7 @@ export function addressOf({ q, chosen, order, page }) {
 }
 
 export function toggled(query, facet, value) {
-  const values = new Set(query.chosen.get(facet));
-  if (!values.delete(value)) values.add(value);
+  const values = new Set(query.chosen.get(facet)).symmetricDifference(new Set([value]));
   return { ...query, chosen: new Map(query.chosen).set(facet, values), page: 1 };
 }
 
@@ -33,15 +29,23 @@ const compared = (a, b) => (a < b ? -1 : a > b ? 1 : 0);
 
 const sorted = { version: -1, orders: {} };
 
-// All rows in an order, kept until something changes.
+// All rows in an order, kept until something changes. What has no value comes last.
 function rowsBy(order, rows, version) {
-  if (sorted.version !== version) Object.assign(sorted, { version, orders: {} });
-  const key = ["best", "name"].includes(order) ? "label" : order;
-  sorted.orders[key] ??= [...rows.values()].sort((a, b) => compared(!a[key], !b[key]) || compared(a[key], b[key]) || compared(a.label, b.label) || compared(a.ref, b.ref));
-  return sorted.orders[key];
+  if (sorted.version !== version) {
+    const old = (sorted.orders.name ?? []).filter((row) => rows.get(row.ref) === row);
+    const names = [...old, ...[...rows.values()].filter((row) => !row.isOld)].sort((a, b) => compared(a.label, b.label));
+    for (const row of names) row.isOld = true;
+    Object.assign(sorted, { version, orders: { name: names, best: names } });
+  }
+  if (!sorted.orders[order]) {
+    const groups = Map.groupBy(sorted.orders.name, (row) => row[order] ?? "");
+    const values = [...groups.keys()].sort((a, b) => compared(!a, !b) || compared(a, b));
+    sorted.orders[order] = values.flatMap((value) => groups.get(value));
+  }
+  return sorted.orders[order];
 }
 
-// The matches whose own names fit a phrase best come first.
+// First those whose own names fit a phrase best.
 function ranked(matches, phrase) {
   const ranks = [[], [], [], []];
   for (const row of matches) {
@@ -51,7 +55,7 @@ function ranked(matches, phrase) {
   return ranks.flat();
 }
 
-// The rows that match, and how many have each value of a facet. A facet counts what the others leave, so that more of it can be chosen.
+// The rows that match, and how many have each value of a facet, which counts what the other facets leave.
 export function search({ q, chosen, order }, rows, version) {
   const phrase = q.trim().toLowerCase();
   const words = phrase.split(/\s+/);
@@ -69,5 +73,4 @@ export function search({ q, chosen, order }, rows, version) {
   return { matches: order === "best" && phrase ? ranked(matches, phrase) : matches, counts };
 }
 
-// The values that most have, with their numbers.
 export const foremost = (counts, most) => [...counts].sort((a, b) => b[1] - a[1] || compared(a[0], b[0])).slice(0, most);

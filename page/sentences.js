@@ -14,7 +14,6 @@ function sentenceOf(name, words) {
   return sentence?.replace("*", () => place);
 }
 
-// An item of a status: its sentence, with the words of the server behind it.
 export const problem = ({ error = {}, message }) =>
   h("li", sentenceOf(error.name, message.split(" ")), " ", h("code.rule", `${error.name} ${message}`));
 

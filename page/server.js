@@ -12,7 +12,7 @@ export function headers() {
 
 let asking;
 
-// Asks for a token, once for all questions that wait. True where one was given.
+// Asks for a token, once for all that wait.
 function tokenGiven() {
   const [dialog, field] = [find("token"), find("token-field")];
   asking ??= new Promise((done) => {
@@ -41,9 +41,8 @@ export const get = async (path) => JSON.parse(await ask(path));
 
 export const post = async (path, body, reviver) => JSON.parse(await ask(path, { method: "POST", body: JSON.stringify(body) }), reviver);
 
-// Keeps whole numbers that a script can't hold as they are written, where the browser can.
+// Keeps whole numbers past 2^53 as they are written, where the browser can.
 export const exact = (key, value, context) =>
   (typeof value === "number" && !Number.isSafeInteger(value) && JSON.rawJSON ? JSON.rawJSON(context.source) : value);
 
-// What graphs and trees need of some entities.
-export const around = async (entityRefs) => (await post("/entities/by-refs", { entityRefs, fields: ["metadata.title", "spec.profile", "relations"] })).items;
+export const around = async (entityRefs) => (await post("/entities/by-refs", { entityRefs, fields: ["relations"] })).items;

@@ -9,18 +9,17 @@ const AGAIN = 5000;
 
 const change = ({ ref, what, time }) => h("li", h("time", time ? time.toLocaleTimeString() : "earlier"), ` ${what} `, link(ref));
 
-// Shows the state until the page is left.
 export async function statePage(box) {
   const load = () => Promise.all([ask("/state"), get("/failed"), get("/conflicts"), get("/orphans")]);
   const [lists, recent] = [h("div"), h("div")];
   const draw = ([line, failed, conflicts, orphans]) => {
     const words = line.trim().split(" ");
     for (const count of box.querySelectorAll("[data-count]")) count.textContent = number(Number(words[words.indexOf(count.dataset.count) + 1]));
-    show(lists, listed("Failed", failed, ({ entityRef, items }) => h("li", link(entityRef), h("ul.problems", items.map(problem))), "Every entity was processed well."),
-      listed("In conflict", conflicts, (conflict) => h("li", link(conflict.entityRef), h("p", contest(conflict))), "No two sources offer the same entity."),
-      listed("Orphaned", orphans, (ref) => h("li", link(ref)), "Nothing is left over."));
+    show(lists, listed("Failed", failed, ({ entityRef, items }) => h("li", link(entityRef), h("ul.problems", items.map(problem))), "Nothing."),
+      listed("In conflict", conflicts, (conflict) => h("li", link(conflict.entityRef), h("p", contest(conflict))), "Nothing."),
+      listed("Orphaned", orphans, (ref) => h("li", link(ref)), "Nothing."));
   };
-  const changed = () => show(recent, listed("What changed", catalogue.recent, change, "Nothing since the catalogue started."));
+  const changed = () => show(recent, listed("What changed", catalogue.recent, change, "Nothing yet."));
   show(box, ready("state"), h("div.split.even", lists, recent));
   draw(await load());
   changed();
