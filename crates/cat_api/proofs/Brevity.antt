@@ -5,11 +5,14 @@ use Rattle.std.specs.Fmt.{decimal}
 use Rattle.std.proofs.lemmas.Fmt.{length-decimal-le}
 use Rattle.cat_feed.specs.Place.{since_text}
 use Rattle.cat_feed.specs.declared.change.Since.{Since}
+use Rattle.cat_http.specs.Content.{media_type, rules_of}
+use Rattle.cat_http.specs.declared.content.Content.{Content}
+use Rattle.cat_http.specs.declared.content.Content.TheVariants as content
 use Rattle.cat_http.specs.Errors.{error_body}
 use Rattle.cat_http.specs.Status.{code, phrase, has_content, has_methods}
 use Rattle.cat_http.specs.declared.status.Status.{Status}
 use Rattle.cat_http.specs.declared.status.Status.TheVariants as status
-use Rattle.cat_http.specs.Reply.{status_line, content_lines, allow_line, close_line, end_of, reply_bytes}
+use Rattle.cat_http.specs.Reply.{status_line, content_lines, rule_lines, allow_line, close_line, end_of, reply_bytes}
 use Rattle.cat_http.specs.declared.message.Message.{Message}
 use Rattle.cat_http.specs.declared.reply.HttpReply.{HttpReply}
 use Rattle.cat_model.specs.declared.types.Acted.{Acted}
@@ -22,7 +25,7 @@ use Rattle.cat_replies.specs.Line.{joined}
 use Rattle.cat_requests.specs.Answers.{answer_body, answer_allow, counts_body, acted_body, reply_to, IsShort, IsShortRefusal}
 use Rattle.cat_requests.specs.Refusals.{allowed, status_of, words_of}
 use Rattle.cat_requests.specs.declared.answer.Answer.{Answer}
-use Rattle.cat_requests.specs.declared.answer.Answer.TheVariants.{Shown, Mutated, Done, Refreshed, Settled, Refused}
+use Rattle.cat_requests.specs.declared.answer.Answer.TheVariants.{Shown, Line, Page, Mutated, Done, Refreshed, Settled, Refused}
 use Rattle.cat_requests.specs.declared.refusal.Refusal.{Refusal}
 use Rattle.cat_requests.specs.declared.refusal.Refusal.TheVariants as refusal
 use Rattle.cat_api.specs.Room.{AreSmall, HasNumbers, AreNumbers, IsBrief}
@@ -145,6 +148,8 @@ acted_short Again = omega arith
 
 body_short : (a : Answer) → IsShort a → AreSmall a → length (answer_body a) ≤ 160
 body_short (Shown text) s n = absurd s
+body_short (Line text) s n = absurd s
+body_short (Page file) s n = absurd s
 body_short (Mutated acted) s n = acted_short acted
 body_short Done s n = omega arith
 body_short Refreshed s n = omega arith
@@ -178,6 +183,8 @@ allows_none refusal.NoMemory s = refl
 
 tells_none : (a : Answer) → IsShort a → answer_allow a ≡ []
 tells_none (Shown text) s = absurd s
+tells_none (Line text) s = absurd s
+tells_none (Page file) s = absurd s
 tells_none (Mutated acted) s = refl
 tells_none Done s = refl
 tells_none Refreshed s = refl
@@ -222,14 +229,44 @@ line_short s =
       phrase_short s,
     )
 
-content_short : (s : Status) (body : List ℕ) → length body < 2 ^ 64 → length (content_lines s body) ≤ 80
-content_short s body h =
+media_short : (c : Content) → length (media_type c) ≤ 30
+media_short content.Json = omega arith
+media_short content.Line = omega arith
+media_short content.Document = omega arith
+media_short content.Style = omega arith
+media_short content.Script = omega arith
+media_short content.Picture = omega arith
+
+content_short : (s : Status) (c : Content) (body : List ℕ) → length body < 2 ^ 64 → length (content_lines s c body) ≤ 90
+content_short s c body h =
     let n = decimal (length body) in
-    let M : Bool → Type 0 = λ t. length (if t then codes "Content-Type: application/json\r\nContent-Length: " ++ (n ++ codes "\r\n") else []) ≤ 80 in
+    let y = codes "\r\nContent-Length: " ++ (n ++ codes "\r\n") in
+    let x = media_type c ++ y in
+    let M : Bool → Type 0 = λ t. length (if t then codes "Content-Type: " ++ x else []) ≤ 90 in
     elim (has_content s) as M [
       | false ↦ omega arith
-      | true ↦ omega (arith, length-append (codes "Content-Type: application/json\r\nContent-Length: ") (n ++ codes "\r\n"), length-append n (codes "\r\n"), short_decimal (length body) h)
+      | true ↦
+          omega (
+            arith,
+            length-append (codes "Content-Type: ") x,
+            length-append (media_type c) y,
+            length-append (codes "\r\nContent-Length: ") (n ++ codes "\r\n"),
+            length-append n (codes "\r\n"),
+            short_decimal (length body) h,
+            media_short c,
+          )
     ]
+
+rules_short : (c : Content) → length (rules_of c) ≤ 300
+rules_short content.Json = omega arith
+rules_short content.Line = omega arith
+rules_short content.Document = omega arith
+rules_short content.Style = omega arith
+rules_short content.Script = omega arith
+rules_short content.Picture = omega arith
+
+rule_short : (s : Status) (c : Content) → length (rule_lines s c) ≤ 300
+rule_short s c = elim (has_content s) as (λ t. length (if t then rules_of c else []) ≤ 300) [ true ↦ rules_short c | false ↦ omega arith ]
 
 allow_short : (s : Status) → length (allow_line s []) ≤ 9
 allow_short s = elim (has_methods s) as (λ t. length (if t then codes "Allow: " ++ ([] ++ codes "\r\n") else []) ≤ 9) [ true ↦ omega arith | false ↦ omega arith ]
@@ -246,20 +283,23 @@ end_short r =
     ]
 
 -- a brief reply fits the room that is taken for it
-pub reply_short : (r : HttpReply) → IsBrief r → length (reply_bytes r) ≤ 512
+pub reply_short : (r : HttpReply) → IsBrief r → length (reply_bytes r) ≤ 1024
 reply_short r b =
     let z = close_line r.close ++ end_of r in
     let y = allow_line r.status r.allow ++ z in
-    let x = content_lines r.status r.body ++ y in
+    let w = rule_lines r.status r.content ++ y in
+    let x = content_lines r.status r.content r.body ++ w in
     let none : length (allow_line r.status r.allow) ≤ 9 = subst (λ l. length (allow_line r.status l) ≤ 9) (sym b.1) (allow_short r.status) in
     omega (
       arith,
       length-append (status_line r.status) x,
-      length-append (content_lines r.status r.body) y,
+      length-append (content_lines r.status r.content r.body) w,
+      length-append (rule_lines r.status r.content) y,
+      rule_short r.status r.content,
       length-append (allow_line r.status r.allow) z,
       length-append (close_line r.close) (end_of r),
       line_short r.status,
-      content_short r.status r.body (omega (arith, b.0)),
+      content_short r.status r.content r.body (omega (arith, b.0)),
       none,
       close_short r.close,
       end_short r,

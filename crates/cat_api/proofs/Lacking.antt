@@ -6,7 +6,7 @@ use Rattle.cat_http.specs.declared.message.Message.{Message}
 use Rattle.cat_http.specs.declared.reply.HttpReply.{HttpReply}
 use Rattle.cat_api.specs.Answering.{Acting, Asking, Telling, Carries, Answers, LacksIn, Lacks}
 use Rattle.cat_api.specs.Operations.{Operation, operation}
-use Rattle.cat_api.specs.Operations.Operation.{Act, Ask, Tell}
+use Rattle.cat_api.specs.Operations.Operation.{Act, Ask, Tell, Show}
 use Rattle.cat_api.specs.Room.{IsBrief, IsBriefBy, IsBriefTo}
 use Rattle.cat_requests.specs.declared.refusal.Refusal.{Refusal}
 use Rattle.cat_requests.specs.declared.request.Request.{Request}
@@ -16,6 +16,7 @@ module _ {A : Type 0} (acts : Acting A) (asks : Asking A) (tells : Telling A) wh
   lacks_in a (Act d k) = inl refl
   lacks_in a (Ask question) = inl refl
   lacks_in a (Tell since) = inl refl
+  lacks_in a (Show file) = refl
 
   -- where nothing was done, memory may have been wanted
   pub lacks_none : (a : A) (asked : Result Request Refusal) → Lacks acts asks tells a a asked
@@ -26,6 +27,7 @@ module _ {A : Type 0} (acts : Acting A) (asks : Asking A) (tells : Telling A) wh
   long_in old new (Act d k) m r h brief long = absurd (long brief)
   long_in old new (Ask question) m r h brief long = inr (h.0, h.1, h.2)
   long_in old new (Tell since) m r h brief long = inr (h.0, h.1, h.2)
+  long_in old new (Show file) m r h brief long = h.0
 
   -- where a reply found no room, no command was done
   pub lacks_long : (old new : A) (asked : Result Request Refusal) (m : Message) (r : HttpReply) → Answers acts asks tells old new asked m r → IsBriefBy asked r → (IsBrief r → ⊥) → Lacks acts asks tells old new asked

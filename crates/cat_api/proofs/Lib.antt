@@ -3,3 +3,4 @@ pub mod Serving
 pub mod Lacking
 pub mod Always
 pub mod Brevity
+pub mod Shown

@@ -31,7 +31,7 @@ use Rattle.cat_replies.specs.Asks.{AskFault, ask_text}
 use Rattle.cat_api.specs.Answering.{Acting, Asking, Telling, Carries, Answers, AnswersBytes, LacksIn, Lacks}
 use Rattle.cat_api.specs.Deeds.{act_answer, ask_answer, asked_answer, changes_answer, told_answer}
 use Rattle.cat_api.specs.Operations.{Operation, operation}
-use Rattle.cat_api.specs.Operations.Operation.{Act, Ask, Tell}
+use Rattle.cat_api.specs.Operations.Operation.{Act, Ask, Tell, Show}
 use Rattle.cat_api.specs.Wire.{Wired, after_operation, after_requested, operation_answer, requested_answer, wire_after, wire_reply}
 use Rattle.cat_api.specs.declared.kind.Kind.{Kind}
 use Rattle.cat_api.proofs.Said.{IsDone, did, stayed}
@@ -42,11 +42,12 @@ use Rattle.cat_requests.specs.declared.request.Request.{Request}
 use Rattle.cat_connection.specs.Worded.{Word, plain, cut, untold, unkept, cut_unkept, IsAnswered, AnswersMessage, LacksMemory, IsWorded}
 
 -- what the desk says to a question is the answer to it
-asked_is : (answer : Result (List ℕ) AskFault) (said : Asked) (text : List ℕ) → IsAnswer answer said text → said ≢ NoMemory → asked_answer said text ≡ ask_answer answer
-asked_is answer Written text is some = ap ask_answer (sym is)
-asked_is answer NotFound text is some = ap ask_answer (sym is.0)
-asked_is answer NoFacet text is some = ap ask_answer (sym is.0)
-asked_is answer NoMemory text is some = absurd (some refl)
+asked_is : (q : Question) (answer : Result (List ℕ) AskFault) (said : Asked) (text : List ℕ) → IsAnswer answer said text → said ≢ NoMemory
+    → asked_answer q said text ≡ ask_answer q answer
+asked_is q answer Written text is some = ap (ask_answer q) (sym is)
+asked_is q answer NotFound text is some = ap (ask_answer q) (sym is.0)
+asked_is q answer NoFacet text is some = ap (ask_answer q) (sym is.0)
+asked_is q answer NoMemory text is some = absurd (some refl)
 
 -- the feed after an ask, by what was answered
 after_is : (ds : Documents) (since : Option Since) (old : Feed) (a : Result Changes FeedFault) → asked ds since old ≡ a → feed_after ds since old ≡ (if is_taken a then taken_in ds old else old)
@@ -133,7 +134,7 @@ module _ {A T : Type 0} (rules : Rules) (timed : A → T) (catalogue : T → Led
             plain,
             tt,
             wired_is old new _ _ (ap (λ l. l.state) same) (ap (λ l. l.settings) same) h.2.1,
-            h.4 ∙ ap (λ a. reply_to m a) (asked_is (ask_text q 0 (catalogue (timed old)).state) h.0 h.1 (said_at q h.0 h.1 h.2) h.3),
+            h.4 ∙ ap (λ a. reply_to m a) (asked_is q (ask_text q 0 (catalogue (timed old)).state) h.0 h.1 (said_at q h.0 h.1 h.2) h.3),
           ),
         )
     done_at (Tell since) m r h =
@@ -146,6 +147,8 @@ module _ {A T : Type 0} (rules : Rules) (timed : A → T) (catalogue : T → Led
             h.4 ∙ ap (λ a. reply_to m a) t.0,
           ),
         )
+
+    done_at (Show file) m r h = (subst IsAtZero (sym h.0) zero, (plain, tt, ap wired h.0, h.1))
 
     -- memory was wanted for an operation
     lacked_at : (o : Operation) → LacksIn acts_at asks_at tells_at old new o → IsAtZero new × ((wired new ≡ wired old) ⊎ (wired new ≡ after_operation rules untold o (wired old)))
@@ -171,6 +174,8 @@ module _ {A T : Type 0} (rules : Rules) (timed : A → T) (catalogue : T → Led
             ],
           )
     ]
+
+    lacked_at (Show file) h = (subst IsAtZero (sym h) zero, inl (ap wired h))
 
     requested_at : (asked : Result Request Refusal) (m : Message) (r : HttpReply) → Answers acts_at asks_at tells_at old new asked m r
         → IsAtZero new × ((word : Word) × IsAnswered word × (wired new ≡ after_requested rules word asked (wired old)) × (r ≡ reply_to m (requested_answer rules word asked (wired old))))

@@ -14,11 +14,11 @@ use Rattle.cat_http.specs.declared.reply.HttpReply.{HttpReply}
 use Rattle.cat_query.specs.declared.ask.Ask.{Ask as Question}
 use Rattle.cat_api.specs.Deeds.{act_answer, asked_answer, lacks_memory, told_answer}
 use Rattle.cat_api.specs.Operations.{Operation, operation}
-use Rattle.cat_api.specs.Operations.Operation.{Act, Ask, Tell}
+use Rattle.cat_api.specs.Operations.Operation.{Act, Ask, Tell, Show}
 use Rattle.cat_api.specs.declared.kind.Kind.{Kind}
 use Rattle.cat_requests.specs.Answers.{reply_to}
 use Rattle.cat_requests.specs.Requests.{request_of}
-use Rattle.cat_requests.specs.declared.answer.Answer.TheVariants.{Refused}
+use Rattle.cat_requests.specs.declared.answer.Answer.TheVariants.{Page, Refused}
 use Rattle.cat_requests.specs.declared.refusal.Refusal.{Refusal}
 use Rattle.cat_requests.specs.declared.request.Request.{Request}
 
@@ -40,17 +40,19 @@ ActsBy acts old new d k m r = (reply : Reply) × acts old d new reply × (lacks_
 
 -- a question was asked of the desk, and the reply says what it answered
 abbrev pub AsksBy : {A : Type 0} → Asking A → A → A → Question → Message → HttpReply → Type 0
-AsksBy asks old new q m r = (said : Asked) × (text : List ℕ) × asks old q new said text × (said ≢ asked.NoMemory) × (r ≡ reply_to m (asked_answer said text))
+AsksBy asks old new q m r = (said : Asked) × (text : List ℕ) × asks old q new said text × (said ≢ asked.NoMemory) × (r ≡ reply_to m (asked_answer q said text))
 
 -- the desk was asked for changes, and the reply says what it answered
 abbrev pub TellsBy : {A : Type 0} → Telling A → A → A → Option Since → Message → HttpReply → Type 0
 TellsBy tells old new since m r = (said : FeedAnswer) × (text : List ℕ) × tells old since new said text × (said ≢ told.NoMemory) × (r ≡ reply_to m (told_answer said text))
 
--- an operation was carried out at the desk, once, and this is the reply
+-- an operation was carried out at the desk, once, and this is the reply; a file of the page is shown as it is, whatever the desk has, and leaves it
+-- as it was
 abbrev pub Carries : {A : Type 0} → Acting A → Asking A → Telling A → A → A → Operation → Message → HttpReply → Type 0
 Carries acts asks tells old new (Act d k) m r = ActsBy acts old new d k m r
 Carries acts asks tells old new (Ask q) m r = AsksBy asks old new q m r
 Carries acts asks tells old new (Tell since) m r = TellsBy tells old new since m r
+Carries acts asks tells old new (Show file) m r = (new ≡ old) × (r ≡ reply_to m (Page file))
 
 -- what a message asks for was carried out, or it was refused and nothing was done
 abbrev pub Answers : {A : Type 0} → Acting A → Asking A → Telling A → A → A → Result Request Refusal → Message → HttpReply → Type 0
@@ -67,6 +69,7 @@ abbrev pub LacksIn : {A : Type 0} → Acting A → Asking A → Telling A → A 
 LacksIn acts asks tells old new (Act d k) = (new ≡ old) ⊎ ((reply : Reply) × acts old d new reply × (lacks_memory reply ≡ true))
 LacksIn acts asks tells old new (Ask q) = (new ≡ old) ⊎ ((said : Asked) × (text : List ℕ) × asks old q new said text)
 LacksIn acts asks tells old new (Tell since) = (new ≡ old) ⊎ ((said : FeedAnswer) × (text : List ℕ) × tells old since new said text)
+LacksIn acts asks tells old new (Show file) = new ≡ old
 
 -- the same of what a message asks for; at one that is refused the desk stays
 abbrev pub Lacks : {A : Type 0} → Acting A → Asking A → Telling A → A → A → Result Request Refusal → Type 0

@@ -13,12 +13,14 @@ use Rattle.cat_feed.specs.declared.fault.FeedFault.TheVariants as feed
 use Rattle.cat_feed.specs.Written.{changes_data}
 use Rattle.cat_desk.specs.declared.feed_desk.FeedAnswer.{FeedAnswer}
 use Rattle.cat_desk.specs.declared.feed_desk.FeedAnswer.TheVariants as told
+use Rattle.cat_query.specs.declared.ask.Ask.{Ask as Question}
+use Rattle.cat_query.specs.declared.ask.Ask.TheVariants as question
 use Rattle.cat_replies.specs.Asks.{AskFault}
 use Rattle.cat_replies.specs.Asks.AskFault.{not_found, no_facet}
 use Rattle.cat_api.specs.declared.kind.Kind.{Kind}
 use Rattle.cat_api.specs.declared.kind.Kind.TheVariants.{Mutation, Shelving, Refreshing, Forgetting, Settling}
 use Rattle.cat_requests.specs.declared.answer.Answer.{Answer}
-use Rattle.cat_requests.specs.declared.answer.Answer.TheVariants.{Shown, Mutated, Done, Refreshed, Settled, Refused}
+use Rattle.cat_requests.specs.declared.answer.Answer.TheVariants.{Shown, Line, Mutated, Done, Refreshed, Settled, Refused}
 use Rattle.cat_requests.specs.declared.refusal.Refusal.{Refusal}
 use Rattle.cat_requests.specs.declared.refusal.Refusal.TheVariants.{Entity, Shelf, Facet, Gone, Ahead, OldSerial, TooLarge, Spent, CutByCounter, CutByMemory, CutByKeeper, SpentFeed, Reply as Strange, Keeper, NoMemory}
 
@@ -68,18 +70,23 @@ act_answer k (replies.Finished finished) = Refused Strange
 act_answer k (replies.StitchTaken order) = Refused Strange
 act_answer k (replies.Placed placed) = Refused Strange
 
+-- what was asked is shown: how much there is as the line of a session, and all else as JSON
+abbrev pub shown : Question → List ℕ → Answer
+shown question.State text = Line text
+shown _ text = Shown text
+
 -- the answer to a question
-abbrev pub ask_answer : Result (List ℕ) AskFault → Answer
-ask_answer (Ok text) = Shown text
-ask_answer (Err not_found) = Refused Entity
-ask_answer (Err no_facet) = Refused Facet
+abbrev pub ask_answer : Question → Result (List ℕ) AskFault → Answer
+ask_answer q (Ok text) = shown q text
+ask_answer q (Err not_found) = Refused Entity
+ask_answer q (Err no_facet) = Refused Facet
 
 -- the same by what the desk says, where it appended this text
-abbrev pub asked_answer : Asked → List ℕ → Answer
-asked_answer asked.Written text = Shown text
-asked_answer asked.NotFound text = Refused Entity
-asked_answer asked.NoFacet text = Refused Facet
-asked_answer asked.NoMemory text = Refused NoMemory
+abbrev pub asked_answer : Question → Asked → List ℕ → Answer
+asked_answer q asked.Written text = shown q text
+asked_answer q asked.NotFound text = Refused Entity
+asked_answer q asked.NoFacet text = Refused Facet
+asked_answer q asked.NoMemory text = Refused NoMemory
 
 -- the answer to an ask for changes
 abbrev pub changes_answer : Result Changes FeedFault → Answer

@@ -8,7 +8,7 @@ use Rattle.cat_requests.specs.declared.refusal.Refusal.{Refusal}
 use Rattle.cat_requests.specs.declared.refusal.Refusal.TheVariants.{Reference, Gone, Ahead, OldSerial, TooLarge, CutByCounter, CutByMemory, CutByKeeper}
 use Rattle.cat_requests.specs.declared.request.Request.{Request}
 use Rattle.cat_api.specs.Operations.{Operation, operation}
-use Rattle.cat_api.specs.Operations.Operation.{Act, Ask, Tell}
+use Rattle.cat_api.specs.Operations.Operation.{Act, Ask, Tell, Show}
 
 -- the numbers of a refusal are of 64 bits
 abbrev pub HasNumbers : Refusal → Type 0
@@ -41,6 +41,7 @@ abbrev pub IsBriefTo : Operation → HttpReply → Type 0
 IsBriefTo (Act d k) r = IsBrief r
 IsBriefTo (Ask question) r = ⊤
 IsBriefTo (Tell since) r = ⊤
+IsBriefTo (Show file) r = ⊤
 
 -- The reply to a request for a deed is brief; of other requests, and of refused ones, nothing is said.
 abbrev pub IsBriefBy : Result Request Refusal → HttpReply → Type 0

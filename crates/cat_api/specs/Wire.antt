@@ -12,11 +12,11 @@ use Rattle.cat_model.specs.declared.types.State.{State}
 use Rattle.cat_replies.specs.Asks.{ask_text}
 use Rattle.cat_api.specs.Deeds.{act_answer, ask_answer, changes_answer}
 use Rattle.cat_api.specs.Operations.{Operation, operation}
-use Rattle.cat_api.specs.Operations.Operation.{Act, Ask, Tell}
+use Rattle.cat_api.specs.Operations.Operation.{Act, Ask, Tell, Show}
 use Rattle.cat_requests.specs.Answers.{reply_to}
 use Rattle.cat_requests.specs.Requests.{request_of}
 use Rattle.cat_requests.specs.declared.answer.Answer.{Answer}
-use Rattle.cat_requests.specs.declared.answer.Answer.TheVariants.{Refused}
+use Rattle.cat_requests.specs.declared.answer.Answer.TheVariants.{Page, Refused}
 use Rattle.cat_requests.specs.declared.refusal.Refusal.{Refusal}
 use Rattle.cat_requests.specs.declared.request.Request.{Request}
 use Rattle.cat_connection.specs.Worded.{Word, plain, memory, cut, untold, unkept, cut_unkept, After, Reply}
@@ -42,12 +42,14 @@ abbrev pub state_after : Rules → Settings → Word → Operation → State →
 state_after rules s word (Act d k) n = after_deed rules s 0 (deed_word word) d n
 state_after rules s word (Ask question) n = n
 state_after rules s word (Tell since) n = n
+state_after rules s word (Show file) n = n
 
 -- the feed after an operation: an ask for changes alone changes it, and has it take the documents in
 abbrev pub told_after : Operation → State → Feed → Feed
 told_after (Act d k) n feed = feed
 told_after (Ask question) n feed = feed
 told_after (Tell since) n feed = feed_after n.documents since feed
+told_after (Show file) n feed = feed
 
 -- The catalogue and its feed after an operation with its word.
 abbrev pub after_operation : Rules → Word → Operation → Wired → Wired
@@ -70,8 +72,9 @@ wire_after rules old word m = after_requested rules word (request_of m) old
 -- the answer to an operation with its word
 abbrev pub operation_answer : Rules → Word → Operation → Wired → Answer
 operation_answer rules word (Act d k) w = act_answer k (deed_reply rules w.catalogue.settings 0 (deed_word word) d w.catalogue.state)
-operation_answer rules word (Ask question) w = ask_answer (ask_text question 0 w.catalogue.state)
+operation_answer rules word (Ask question) w = ask_answer question (ask_text question 0 w.catalogue.state)
 operation_answer rules word (Tell since) w = changes_answer (asked w.catalogue.state.documents since w.feed)
+operation_answer rules word (Show file) w = Page file
 
 -- The answer to what a message asks for, with its word; to a refused message it is the refusal.
 abbrev pub requested_answer : Rules → Word → Result Request Refusal → Wired → Answer

@@ -47,13 +47,23 @@ fn act<F: Drop, S: Drop, D: FeedDesk<F, S>>(
     reply_to(alloc, body, message, answer)
 }
 
+// What a question was answered: how much there is as a line, and all else as JSON.
+fn shown(ask: &Ask, text: Bytes) -> Answer
+    ensures { result ≡ deeds.shown ask.now text }
+{
+    match ask {
+        Ask::State => Answer::Line(text),
+        _ => Answer::Shown(text),
+    }
+}
+
 // The answer to a question, by what the desk says and what it appended; none for want of memory.
-fn asked_answer(asked: Asked, text: Vec<u8>) -> Result<Answer, AllocError>
-    ensures ok { IfOk result (λ a. a ≡ deeds.asked_answer asked text.items) }
+fn asked_answer(ask: &Ask, asked: Asked, text: Vec<u8>) -> Result<Answer, AllocError>
+    ensures ok { IfOk result (λ a. a ≡ deeds.asked_answer ask.now asked text.items) }
     ensures some { OnOk result (asked ≢ Asked.NoMemory) }
 {
     match asked {
-        Asked::Written => Ok(Answer::Shown(Bytes::from_vec(text))),
+        Asked::Written => Ok(shown(ask, Bytes::from_vec(text))),
         Asked::NotFound => Ok(Answer::Refused(Refusal::Entity)),
         Asked::NoFacet => Ok(Answer::Refused(Refusal::Facet)),
         Asked::NoMemory => Err(AllocError),
@@ -72,7 +82,7 @@ fn ask<F: Drop, S: Drop, D: FeedDesk<F, S>>(
 {
     let mut text = Vec::new(alloc);
     let asked = desk.ask(alloc, ask, &mut text);
-    let answer = asked_answer(asked, text)?;
+    let answer = asked_answer(ask, asked, text)?;
     reply_to(alloc, Vec::new(alloc), message, answer)
 }
 
@@ -121,6 +131,7 @@ fn carry_out<F: Drop, S: Drop, D: FeedDesk<F, S>>(
         Task::Act(command, kind) => act(alloc, desk, command, kind, message),
         Task::Ask(question) => ask(alloc, desk, &question, message),
         Task::Tell(since) => tell(alloc, desk, since, message),
+        Task::Show(file) => reply_to(alloc, Vec::new(alloc), message, Answer::Page(file)),
     }
 }
 

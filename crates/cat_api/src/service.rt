@@ -14,7 +14,7 @@ use std::alloc::{AllocError, Global};
 use std::marker::PhantomData;
 
 /// The most bytes of the reply to a command, and some. This room is taken before the command acts.
-const REPLY: usize = 512;
+const REPLY: usize = 1024;
 
 /// A desk that answers the messages of a connection. `F` and `S` are the results and the documents that the desk takes, which no
 /// message brings.

@@ -7,6 +7,7 @@ ghost use Rattle.cat_model.specs.declared.types.StitchOrder.{StitchOrder};
 use crate::kind::Kind;
 use cat_desk::command::Command;
 use cat_feed::change::Since;
+use cat_page::file::File;
 use cat_query::ask::Ask;
 use cat_requests::request::Request;
 
@@ -20,6 +21,8 @@ pub enum Task<F, S> {
     Ask(Ask),
     /// Tell what changed since a place, or every document without one.
     Tell(Option<Since>),
+    /// Show a file of the page, which asks nothing of the desk.
+    Show(File),
 }
 
 /// What a request asks of a desk.
@@ -37,5 +40,6 @@ pub fn task_of<F: Drop, S: Drop>(request: Request) -> Task<F, S>
         Request::Settle => Task::Act(Command::Settle, Kind::Settling),
         Request::Ask(question) => Task::Ask(question),
         Request::Changes(since) => Task::Tell(since),
+        Request::Page(file) => Task::Show(file),
     }
 }

@@ -1,5 +1,6 @@
 -- The replies that say what is wrong.
 use Rattle.std.specs.Prelude.{ℕ, Bool, true, false, List, [], ◌++◌, codes, decimal}
+use Rattle.cat_http.specs.declared.content.Content.TheVariants.{Json}
 use Rattle.cat_http.specs.declared.message.Rule.{Rule}
 use Rattle.cat_http.specs.declared.message.Rule.TheVariants.{HeadSize, Head, Host, TransferCoding, Length, Body}
 use Rattle.cat_http.specs.declared.reply.HttpReply.{HttpReply}
@@ -26,6 +27,7 @@ error_body status words =
 abbrev pub refusal : Rule → HttpReply
 refusal rule = record {
   status = rule_status rule;
+  content = Json;
   body = error_body (rule_status rule) (rule_text rule);
   allow = [];
   close = true;
@@ -34,4 +36,4 @@ refusal rule = record {
 
 -- a message that lacks memory is answered so; whether the connection ends, and whether it is a HEAD, is the message's
 abbrev pub no_memory : Bool → Bool → HttpReply
-no_memory close bare = record { status = InsufficientStorage; body = error_body InsufficientStorage (codes "memory"); allow = []; close = close; bare = bare }
+no_memory close bare = record { status = InsufficientStorage; content = Json; body = error_body InsufficientStorage (codes "memory"); allow = []; close = close; bare = bare }

@@ -1,3 +1,4 @@
+pub mod Content
 pub mod Lines
 pub mod Head
 pub mod Status

@@ -13,6 +13,7 @@
 #![tactic(auto)]
 
 pub mod body;
+pub mod content;
 pub mod fields;
 pub mod fixed;
 pub mod head;

@@ -1,9 +1,11 @@
 //! The bytes of replies.
-ghost use Rattle.std.specs.Prelude.{◌≡◌, ◌≤◌, ◌<◌, ◌+◌, ◌++◌, [], codes, length, flat_map, OnOk, OnErr, is_ok, vec_len, vec_capacity};
-ghost use Rattle.cat_http.specs.Reply.{joined, status_line, content_lines, allow_line, close_line, end_of, reply_bytes, Adds};
+ghost use Rattle.std.specs.Prelude.{◌≡◌, ◌≤◌, ◌<◌, ◌+◌, ◌++◌, [], codes, decimal, length, flat_map, OnOk, OnErr, is_ok, vec_len, vec_capacity};
+ghost use Rattle.cat_http.specs.Content.{media_type, rules_of};
+ghost use Rattle.cat_http.specs.Reply.{joined, status_line, content_lines, rule_lines, allow_line, close_line, end_of, reply_bytes, Adds};
 ghost use Rattle.cat_http.specs.Status.{phrase};
 
 use crate::body::{Bytes, Texts};
+use crate::content::Content;
 use crate::status::Status;
 use cat_tree::text::Text;
 use itoa::Buffer;
@@ -14,6 +16,8 @@ use std::alloc::AllocError;
 pub struct HttpReply {
     /// The status.
     pub status: Status,
+    /// What the body is.
+    pub content: Content,
     /// The body, which is left out where the status is `NoContent`.
     pub body: Bytes,
     /// The methods that the path has, which are written where the status is `MethodNotAllowed`.
@@ -64,21 +68,54 @@ fn put_status(out: &mut Vec<u8>, status: Status) -> Result<(), AllocError>
     put_phrase(out, status)
 }
 
-fn put_content(out: &mut Vec<u8>, status: Status, body: &[u8]) -> Result<(), AllocError>
+fn put_length(out: &mut Vec<u8>, body: &[u8]) -> Result<(), AllocError>
     ensures { Adds out.old.items out.new.items (vec_capacity out.old) (vec_capacity out.new)
-        (is_ok result) (content_lines status body.now) }
+        (is_ok result) (codes "\r\nContent-Length: " ++ (decimal (length body.now) ++ codes "\r\n")) }
+{
+    let mut buffer = Buffer::new();
+    let length = buffer.format(body.len()).as_bytes();
+    put_three(out, b"\r\nContent-Length: ", length, b"\r\n")
+}
+
+fn put_type(out: &mut Vec<u8>, content: Content, body: &[u8]) -> Result<(), AllocError>
+    ensures { Adds out.old.items out.new.items (vec_capacity out.old) (vec_capacity out.new)
+        (is_ok result) (media_type content ++ (codes "\r\nContent-Length: " ++ (decimal (length body.now) ++ codes "\r\n"))) }
+{
+    put(out, content.media_type().as_bytes())?;
+    put_length(out, body)
+}
+
+fn put_type_line(out: &mut Vec<u8>, content: Content, body: &[u8]) -> Result<(), AllocError>
+    ensures { Adds out.old.items out.new.items (vec_capacity out.old) (vec_capacity out.new)
+        (is_ok result) (codes "Content-Type: " ++ (media_type content ++ (codes "\r\nContent-Length: " ++ (decimal (length body.now) ++ codes "\r\n")))) }
+{
+    put(out, b"Content-Type: ")?;
+    put_type(out, content, body)
+}
+
+fn put_content(
+    out: &mut Vec<u8>,
+    status: Status,
+    content: Content,
+    body: &[u8],
+) -> Result<(), AllocError>
+    ensures { Adds out.old.items out.new.items (vec_capacity out.old) (vec_capacity out.new)
+        (is_ok result) (content_lines status content body.now) }
 {
     if !status.has_content() {
         return put(out, b"");
     }
-    let mut buffer = Buffer::new();
-    let length = buffer.format(body.len()).as_bytes();
-    put_three(
-        out,
-        b"Content-Type: application/json\r\nContent-Length: ",
-        length,
-        b"\r\n",
-    )
+    put_type_line(out, content, body)
+}
+
+fn put_rules(out: &mut Vec<u8>, status: Status, content: Content) -> Result<(), AllocError>
+    ensures { Adds out.old.items out.new.items (vec_capacity out.old) (vec_capacity out.new)
+        (is_ok result) (rule_lines status content) }
+{
+    if !status.has_content() {
+        return put(out, b"");
+    }
+    put(out, content.rules().as_bytes())
 }
 
 fn put_methods(out: &mut Vec<u8>, methods: &[Text]) -> Result<(), AllocError>
@@ -156,14 +193,25 @@ fn put_from_allow(out: &mut Vec<u8>, reply: &HttpReply) -> Result<(), AllocError
     put_last_lines(out, reply)
 }
 
-fn put_from_content(out: &mut Vec<u8>, reply: &HttpReply) -> Result<(), AllocError>
+fn put_from_rules(out: &mut Vec<u8>, reply: &HttpReply) -> Result<(), AllocError>
     ensures { Adds out.old.items out.new.items (vec_capacity out.old) (vec_capacity out.new)
-        (is_ok result) (content_lines reply.now.status reply.now.body
+        (is_ok result) (rule_lines reply.now.status reply.now.content
         ++ (allow_line reply.now.status reply.now.allow
         ++ (close_line reply.now.close ++ end_of reply.now))) }
 {
-    put_content(out, reply.status, reply.body.as_slice())?;
+    put_rules(out, reply.status, reply.content)?;
     put_from_allow(out, reply)
+}
+
+fn put_from_content(out: &mut Vec<u8>, reply: &HttpReply) -> Result<(), AllocError>
+    ensures { Adds out.old.items out.new.items (vec_capacity out.old) (vec_capacity out.new)
+        (is_ok result) (content_lines reply.now.status reply.now.content reply.now.body
+        ++ (rule_lines reply.now.status reply.now.content
+        ++ (allow_line reply.now.status reply.now.allow
+        ++ (close_line reply.now.close ++ end_of reply.now)))) }
+{
+    put_content(out, reply.status, reply.content, reply.body.as_slice())?;
+    put_from_rules(out, reply)
 }
 
 fn put_reply(out: &mut Vec<u8>, reply: &HttpReply) -> Result<(), AllocError>

@@ -5,7 +5,7 @@ use Rattle.std.specs.declared.option.Option.TheVariants.{None, Some}
 use Rattle.std.specs.declared.result.Result.{Result}
 use Rattle.std.specs.declared.result.Result.TheVariants.{Ok, Err}
 use Rattle.cat_api.specs.Operations.{Operation, operation}
-use Rattle.cat_api.specs.Operations.Operation.{Act, Ask, Tell}
+use Rattle.cat_api.specs.Operations.Operation.{Act, Ask, Tell, Show}
 use Rattle.cat_api.specs.Wire.{Wired, after_requested, deed_word, state_after, wire_after}
 use Rattle.cat_desk.specs.Acts.{after_deed, done}
 use Rattle.cat_desk.specs.Deed.{Deed}
@@ -55,6 +55,7 @@ module _ (rule : OrphanRule) where
   operation_lasts w (Act d k) m g h = deed_lasts 0 (deed_word w) d m g h
   operation_lasts w (Ask question) m g h = h
   operation_lasts w (Tell since) m g h = h
+  operation_lasts w (Show file) m g h = h
 
   -- a catalogue under the program's settings, in a state that lasts
   pub record Serves (k : Wired) : Type 0 where

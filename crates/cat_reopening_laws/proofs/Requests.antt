@@ -4,7 +4,7 @@ use Rattle.cat_types.specs.Names.{is_name, is_shelf_name}
 use Rattle.cat_collections.specs.Table.{Text}
 use Rattle.cat_types.specs.declared.input.Mutation.{Mutation}
 use Rattle.cat_api.specs.Operations.{Operation, operation}
-use Rattle.cat_api.specs.Operations.Operation.{Act, Ask as Asks, Tell}
+use Rattle.cat_api.specs.Operations.Operation.{Act, Ask as Asks, Tell, Show}
 use Rattle.cat_session_lines.specs.Arguments.{utf8_in}
 use Rattle.cat_desk.specs.Deed.{Deed}
 use Rattle.cat_desk.specs.Deed.Deed.{Mutate as Mutated, ShelfPut as PutOnShelf}
@@ -44,6 +44,7 @@ abbrev pub IsFormedOperation : Operation → Type 0
 IsFormedOperation (Act d k) = IsFormedDeed d
 IsFormedOperation (Asks q) = Unit {0}
 IsFormedOperation (Tell since) = Unit {0}
+IsFormedOperation (Show file) = Unit {0}
 
 -- what a request gives has its form
 abbrev pub IsFormedRequest : Request → Type 0
@@ -130,6 +131,7 @@ fixed_formed fixed.EntityFacets v m = asked_formed v (question fixed.EntityFacet
 fixed_formed fixed.Conflicts v m = asked_formed v (question fixed.Conflicts m)
 fixed_formed fixed.Failed v m = asked_formed v (question fixed.Failed m)
 fixed_formed fixed.Orphans v m = asked_formed v (question fixed.Orphans m)
+fixed_formed fixed.State v m = asked_formed v (question fixed.State m)
 fixed_formed fixed.Changes v m = with_method_formed (reads v) (on request.Changes (place_of m)) (on_any request.Changes (place_of m) (λ since. tt))
 
 resource_formed : (r : Resource) (v : Option Verb) (m : Message) → IsFormedResult (resource_asked r v m)
@@ -137,6 +139,7 @@ resource_formed (resource.Fixed f) v m = fixed_formed f v m
 resource_formed (resource.ByUid uid) v m = numbered_formed v uid
 resource_formed (resource.ByName kind namespace name) v m = asked_formed v (on ask.Get (entity kind namespace name))
 resource_formed (resource.Mutation p f) v m = posted_formed v (mutate p f m) (mutate_formed p f m)
+resource_formed (resource.Page file) v m = with_method_formed (reads v) (Ok (request.Page file)) tt
 
 requested_formed : (r : Result Resource Refusal) (m : Message) → IsFormedResult (requested r m)
 requested_formed (Ok r) m = resource_formed r (verb_of m.method) m

@@ -4,21 +4,26 @@ use Rattle.std.specs.Fmt.{decimal}
 use Rattle.cat_http.specs.declared.message.Message.{Message}
 use Rattle.cat_http.specs.declared.reply.HttpReply.{HttpReply}
 use Rattle.cat_http.specs.Errors.{error_body}
+use Rattle.cat_http.specs.declared.content.Content.{Content}
+use Rattle.cat_http.specs.declared.content.Content.TheVariants as content
 use Rattle.cat_http.specs.declared.status.Status.{Status}
 use Rattle.cat_http.specs.declared.status.Status.TheVariants as status
 use Rattle.cat_model.specs.declared.types.Acted.{Acted}
 use Rattle.cat_model.specs.declared.types.Acted.TheVariants.{Now, Again}
 use Rattle.cat_model.specs.declared.types.Counts.{Counts}
+use Rattle.cat_page.specs.Files as files
 use Rattle.cat_replies.specs.Line.{joined}
 use Rattle.cat_requests.specs.Refusals.{allowed, status_of, words_of}
 use Rattle.cat_requests.specs.declared.answer.Answer.{Answer}
-use Rattle.cat_requests.specs.declared.answer.Answer.TheVariants.{Shown, Mutated, Done, Refreshed, Settled, Refused}
+use Rattle.cat_requests.specs.declared.answer.Answer.TheVariants.{Shown, Line, Page, Mutated, Done, Refreshed, Settled, Refused}
 use Rattle.cat_requests.specs.declared.refusal.Refusal.{Refusal}
 use Rattle.cat_requests.specs.declared.refusal.Refusal.TheVariants as refusal
 
 -- the status of an answer
 abbrev pub answer_status : Answer → Status
 answer_status (Shown text) = status.Ok
+answer_status (Line text) = status.Ok
+answer_status (Page file) = status.Ok
 answer_status (Mutated acted) = status.Ok
 answer_status Done = status.NoContent
 answer_status Refreshed = status.Ok
@@ -36,9 +41,17 @@ counts_body n = joined (
     codes "{\"leases\":" ∷ decimal n.leases ∷ codes ",\"rounds\":" ∷ decimal n.rounds ∷ codes ",\"stitched\":" ∷ decimal n.stitched ∷ codes "}"
     ∷ [])
 
--- the body of an answer, which is JSON
+-- what the body of an answer is: JSON, but for a line and the page
+abbrev pub answer_content : Answer → Content
+answer_content (Line text) = content.Line
+answer_content (Page file) = files.content file
+answer_content _ = content.Json
+
+-- the body of an answer
 abbrev pub answer_body : Answer → List ℕ
 answer_body (Shown text) = text
+answer_body (Line text) = text
+answer_body (Page file) = files.bytes file
 answer_body (Mutated acted) = acted_body acted
 answer_body Done = []
 answer_body Refreshed = codes "{}"
@@ -51,12 +64,12 @@ answer_allow (Refused r) = allowed r
 answer_allow _ = []
 
 -- a reply ends the connection where the message does, and to a HEAD it has no body
-abbrev pub reply_with : Message → Status → List ℕ → List (List ℕ) → HttpReply
-reply_with m told body allow = record { status = told; body = body; allow = allow; close = m.last; bare = bytes_eq m.method (codes "HEAD") }
+abbrev pub reply_with : Message → Status → Content → List ℕ → List (List ℕ) → HttpReply
+reply_with m told content body allow = record { status = told; content = content; body = body; allow = allow; close = m.last; bare = bytes_eq m.method (codes "HEAD") }
 
 -- the reply to a message
 abbrev pub reply_to : Message → Answer → HttpReply
-reply_to m answer = reply_with m (answer_status answer) (answer_body answer) (answer_allow answer)
+reply_to m answer = reply_with m (answer_status answer) (answer_content answer) (answer_body answer) (answer_allow answer)
 
 -- ---- room
 
@@ -70,5 +83,7 @@ IsShortRefusal _ = ⊤
 -- The answer has a body of at most 160 bytes, and tells no methods.
 abbrev pub IsShort : Answer → Type 0
 IsShort (Shown text) = ⊥
+IsShort (Line text) = ⊥
+IsShort (Page file) = ⊥
 IsShort (Refused r) = IsShortRefusal r
 IsShort _ = ⊤

@@ -4,6 +4,8 @@ use Rattle.std.specs.Str.{is_utf8}
 use Rattle.percent_encoding.specs.Percent.{percent_decode}
 use Rattle.cat_types.specs.Reading.{cut}
 use Rattle.cat_collections.specs.Table.{Text}
+use Rattle.cat_page.specs.Files.{file_at}
+use Rattle.cat_page.specs.declared.file.File.{File}
 use Rattle.cat_requests.specs.Routes.{route_of}
 use Rattle.cat_requests.specs.declared.path.Resource.{Resource}
 use Rattle.cat_requests.specs.declared.path.Resource.TheVariants as resource
@@ -68,6 +70,11 @@ abbrev pub resource_by : Option Route → List ℕ → Result Resource Refusal
 resource_by None path = Err NoRoute
 resource_by (Some r) path = named_by r path
 
+-- a file of the page, or what the path's route says
+abbrev pub resource_at : Option File → Option Route → List ℕ → Result Resource Refusal
+resource_at (Some file) r path = Ok (resource.Page file)
+resource_at None r path = resource_by r path
+
 -- what a path names
 unfoldable pub resource_of : List ℕ → Result Resource Refusal
-resource_of path = resource_by (route_of path) path
+resource_of path = resource_at (file_at path) (route_of path) path

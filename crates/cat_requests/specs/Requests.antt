@@ -191,6 +191,7 @@ question fixed.ByRefs m = many_of m.body
 question fixed.Conflicts m = Ok ask.Conflicts
 question fixed.Failed m = Ok ask.Failed
 question fixed.Orphans m = Ok ask.Orphans
+question fixed.State m = Ok ask.State
 question fixed.Refresh m = Err Route
 question fixed.Shelf m = Err Route
 question fixed.Settle m = Err Route
@@ -208,6 +209,7 @@ fixed_by fixed.EntityFacets v m = asked_by v (question fixed.EntityFacets m)
 fixed_by fixed.Conflicts v m = asked_by v (question fixed.Conflicts m)
 fixed_by fixed.Failed v m = asked_by v (question fixed.Failed m)
 fixed_by fixed.Orphans v m = asked_by v (question fixed.Orphans m)
+fixed_by fixed.State v m = asked_by v (question fixed.State m)
 fixed_by fixed.Changes v m = with_method (reads v) (on request.Changes (place_of m))
 
 -- What a message asks of a resource by this method, or the first refusal that holds.
@@ -216,6 +218,7 @@ resource_asked (resource.Fixed f) v m = fixed_by f v m
 resource_asked (resource.ByUid uid) v m = numbered_by v uid
 resource_asked (resource.ByName kind namespace name) v m = asked_by v (on ask.Get (entity kind namespace name))
 resource_asked (resource.Mutation provider form) v m = posted_by v (mutate provider form m)
+resource_asked (resource.Page file) v m = with_method (reads v) (Ok (request.Page file))
 
 -- What a message asks of the resource that its path names, or the refusal of the path.
 abbrev pub requested : Result Resource Refusal → Message → Result Request Refusal

@@ -8,7 +8,7 @@ use Rattle.matchit.specs.Seek.{first}
 use Rattle.matchit.specs.declared.error.InsertError.{InsertError}
 use Rattle.cat_inputs.specs.declared.form.Form.TheVariants.{Full, Delta}
 use Rattle.cat_requests.specs.declared.routes.Fixed.{Fixed}
-use Rattle.cat_requests.specs.declared.routes.Fixed.TheVariants.{Entities, ByQuery, ByRefs, EntityFacets, Refresh, Shelf, Settle, Conflicts, Failed, Orphans, Changes}
+use Rattle.cat_requests.specs.declared.routes.Fixed.TheVariants.{Entities, ByQuery, ByRefs, EntityFacets, Refresh, Shelf, Settle, Conflicts, Failed, Orphans, State, Changes}
 use Rattle.cat_requests.specs.declared.routes.Route.{Route}
 use Rattle.cat_requests.specs.declared.routes.Route.TheVariants.{Fixed as FixedPath, ByUid, ByName, Mutation}
 
@@ -26,6 +26,7 @@ fixed_text Settle = codes "/settle"
 fixed_text Conflicts = codes "/conflicts"
 fixed_text Failed = codes "/failed"
 fixed_text Orphans = codes "/orphans"
+fixed_text State = codes "/state"
 fixed_text Changes = codes "/changes"
 
 -- how the paths of a route are written; a name in braces stands for a piece, which has a byte at least and no slash
@@ -40,7 +41,7 @@ route_text (Mutation Delta) = codes "/providers/{name}/delta"
 abbrev pub all_routes : List Route
 all_routes =
     FixedPath Entities ∷ FixedPath ByQuery ∷ FixedPath ByRefs ∷ FixedPath EntityFacets ∷ FixedPath Refresh ∷ FixedPath Shelf ∷ FixedPath Settle
-    ∷ FixedPath Conflicts ∷ FixedPath Failed ∷ FixedPath Orphans ∷ FixedPath Changes ∷ ByUid ∷ ByName ∷ Mutation Full ∷ Mutation Delta ∷ []
+    ∷ FixedPath Conflicts ∷ FixedPath Failed ∷ FixedPath Orphans ∷ FixedPath State ∷ FixedPath Changes ∷ ByUid ∷ ByName ∷ Mutation Full ∷ Mutation Delta ∷ []
 
 -- ---- the route of a path
 

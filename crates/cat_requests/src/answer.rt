@@ -11,11 +11,13 @@ ghost use Rattle.cat_requests.specs.Refusals.{allowed, input_words, methods_of, 
 use crate::refusal::{Methods, Refusal};
 use cat_feed::change::Since;
 use cat_http::body::{Bytes, Texts};
+use cat_http::content::Content;
 use cat_http::message::Message;
 use cat_http::reply::HttpReply;
 use cat_http::status::Status;
 use cat_inputs::fault::InputFault;
 use cat_model::types::{Acted, Counter, Counts};
+use cat_page::file::File;
 use cat_query::fault::QueryFault;
 use cat_replies::line::{Piece, push_text};
 use cat_tree::read::TreeFault;
@@ -30,6 +32,10 @@ pub const ROOM: usize = 160;
 pub enum Answer {
     /// What the catalogue was asked.
     Shown(Bytes),
+    /// What the catalogue was asked, as a line.
+    Line(Bytes),
+    /// A file of the page.
+    Page(File),
     /// The mutation acted, or its serial is the last one again.
     Mutated(Acted),
     /// It is done, and nothing is to be said.
@@ -330,12 +336,19 @@ fn allowed(alloc: Global, refusal: Refusal) -> Result<Texts, AllocError>
     }
 }
 
-// The reply to a message with this status, body and methods.
-fn reply_with(message: &Message, status: Status, body: Bytes, allow: Texts) -> HttpReply
-    ensures { result ≡ spec.reply_with message.now status body allow }
+// The reply to a message with this status, body of this content, and methods.
+fn reply_with(
+    message: &Message,
+    status: Status,
+    content: Content,
+    body: Bytes,
+    allow: Texts,
+) -> HttpReply
+    ensures { result ≡ spec.reply_with message.now status content body allow }
 {
     HttpReply {
         status,
+        content,
         body,
         allow,
         close: message.last,
@@ -356,7 +369,13 @@ fn refuse(
     let mut body = body;
     let allow = allowed(alloc, refusal)?;
     push_refusal(&mut body, refusal)?;
-    Ok(reply_with(message, status(refusal), Bytes::from_vec(body), allow))
+    Ok(reply_with(
+        message,
+        status(refusal),
+        Content::Json,
+        Bytes::from_vec(body),
+        allow,
+    ))
 }
 
 fn mutated(
@@ -374,6 +393,7 @@ fn mutated(
     Ok(reply_with(
         message,
         Status::Ok,
+        Content::Json,
         Bytes::from_vec(body),
         Texts::from_vec(Vec::new(alloc)),
     ))
@@ -394,6 +414,7 @@ fn settled(
     Ok(reply_with(
         message,
         Status::Ok,
+        Content::Json,
         Bytes::from_vec(body),
         Texts::from_vec(Vec::new(alloc)),
     ))
@@ -409,7 +430,21 @@ fn refreshed(body: Vec<u8>, alloc: Global, message: &Message) -> Result<HttpRepl
     Ok(reply_with(
         message,
         Status::Ok,
+        Content::Json,
         Bytes::from_vec(body),
+        Texts::from_vec(Vec::new(alloc)),
+    ))
+}
+
+fn page(alloc: Global, message: &Message, file: File) -> Result<HttpReply, AllocError>
+    ensures { IfOk result (λ r. r ≡ spec.reply_to message.now (Answer.Page file)) }
+{
+    let body = Bytes::of(alloc, file.bytes())?;
+    Ok(reply_with(
+        message,
+        Status::Ok,
+        file.content(),
+        body,
         Texts::from_vec(Vec::new(alloc)),
     ))
 }
@@ -428,9 +463,14 @@ pub fn reply_to(
 {
     let none = Texts::from_vec(Vec::new(alloc));
     match answer {
-        Answer::Shown(text) => Ok(reply_with(message, Status::Ok, text, none)),
+        Answer::Shown(text) => Ok(reply_with(message, Status::Ok, Content::Json, text, none)),
+        Answer::Line(text) => Ok(reply_with(message, Status::Ok, Content::Line, text, none)),
+        Answer::Page(file) => page(alloc, message, file),
         Answer::Mutated(acted) => mutated(body, alloc, message, acted),
-        Answer::Done => Ok(reply_with(message, Status::NoContent, Bytes::from_vec(body), none)),
+        Answer::Done => {
+            let body = Bytes::from_vec(body);
+            Ok(reply_with(message, Status::NoContent, Content::Json, body, none))
+        }
         Answer::Refreshed => refreshed(body, alloc, message),
         Answer::Settled(counts) => settled(body, alloc, message, counts),
         Answer::Refused(refusal) => refuse(alloc, body, message, refusal),

@@ -1,6 +1,6 @@
 //! What the messages of the catalogue's HTTP interface ask for, and how they are answered.
 //!
-//! A message is a command, a question, an ask for changes, or refused: by its path, its method, the pieces of its path, its parameters or its
+//! A message is a command, a question, an ask for changes or for a file of the page, or refused: by its path, its method, the pieces of its path, its parameters or its
 //! body, the first that doesn't fit. What is answered becomes the status, the body and the methods of a reply. The crate
 //! promises that both are what definitions compute from the message and the answer. It knows nothing of a catalogue.
 //!

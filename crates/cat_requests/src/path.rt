@@ -5,6 +5,7 @@ ghost use Rattle.cat_requests.specs.Paths as spec;
 use crate::refusal::Refusal;
 use crate::routes::{Fixed, Route, Routes};
 use cat_inputs::form::Form;
+use cat_page::file::{File, file_at};
 use cat_tree::text::Text;
 use percent_encoding::{DecodeError, percent_decode};
 use std::alloc::Global;
@@ -20,6 +21,8 @@ pub enum Resource {
     ByName(Text, Text, Text),
     /// A provider's name, and the form of its mutations.
     Mutation(Text, Form),
+    /// A file of the page.
+    Page(File),
 }
 
 // What stands before the first slash and after it, if there is one.
@@ -88,12 +91,15 @@ fn named(alloc: Global, route: Route, path: &str) -> Result<Resource, Refusal>
     }
 }
 
-/// What a path names. It is `Route` where no route fits, or where the percent escapes of a piece don't decode to UTF-8.
+/// What a path names: a file of the page, or what its route says. It is `Route` where no route fits, or where the percent escapes of a piece don't decode to UTF-8.
 #[tactic(auto, unfolding(crate::specs::Paths::resource_of))]
 pub fn resource_of(alloc: Global, routes: &Routes, path: &str) -> Result<Resource, Refusal>
     ensures ok { IfOk result (λ r. spec.resource_of path.now ≡ Ok r) }
     ensures err { IfErr result (λ e. (spec.resource_of path.now ≡ Err e) ⊎ (e ≡ Refusal.NoMemory)) }
 {
+    if let Some(file) = file_at(path.as_bytes()) {
+        return Ok(Resource::Page(file));
+    }
     match routes.route_of(path) {
         Some(route) => named(alloc, route, path),
         None => Err(Refusal::Route),

@@ -14,6 +14,7 @@ use cat_feed::place::since_of;
 use cat_http::message::Message;
 use cat_inputs::form::Form;
 use cat_inputs::input::read_mutation;
+use cat_page::file::File;
 use cat_pages::query::Query;
 use cat_query::ask::Ask;
 use cat_session_lines::argument::utf8_in;
@@ -44,6 +45,8 @@ pub enum Request {
     Ask(Ask),
     /// Tell what changed since a place, or every document without one.
     Changes(Option<Since>),
+    /// Show a file of the page.
+    Page(File),
 }
 
 /// A method, where HEAD asks as GET does.
@@ -249,6 +252,7 @@ fn question(alloc: Global, fixed: Fixed, message: &Message) -> Result<Ask, Refus
         Fixed::Conflicts => Ok(Ask::Conflicts),
         Fixed::Failed => Ok(Ask::Failed),
         Fixed::Orphans => Ok(Ask::Orphans),
+        Fixed::State => Ok(Ask::State),
         _ => Err(Refusal::Route),
     }
 }
@@ -309,6 +313,10 @@ fn asked(
         Resource::Mutation(provider, form) => {
             posts(verb)?;
             mutate(alloc, provider, form, message)
+        }
+        Resource::Page(file) => {
+            reads(verb)?;
+            Ok(Request::Page(file))
         }
     }
 }

@@ -20,6 +20,7 @@ pub enum Fixed {
     Conflicts,
     Failed,
     Orphans,
+    State,
     Changes,
 }
 
@@ -39,6 +40,7 @@ impl Fixed {
             Fixed::Conflicts => "/conflicts",
             Fixed::Failed => "/failed",
             Fixed::Orphans => "/orphans",
+            Fixed::State => "/state",
             Fixed::Changes => "/changes",
         }
     }
@@ -57,7 +59,7 @@ pub enum Route {
     Mutation(Form),
 }
 
-const ROUTES: [Route; 15] = [
+const ROUTES: [Route; 16] = [
     Route::Fixed(Fixed::Entities),
     Route::Fixed(Fixed::ByQuery),
     Route::Fixed(Fixed::ByRefs),
@@ -68,6 +70,7 @@ const ROUTES: [Route; 15] = [
     Route::Fixed(Fixed::Conflicts),
     Route::Fixed(Fixed::Failed),
     Route::Fixed(Fixed::Orphans),
+    Route::Fixed(Fixed::State),
     Route::Fixed(Fixed::Changes),
     Route::ByUid,
     Route::ByName,

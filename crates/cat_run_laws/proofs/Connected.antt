@@ -3,7 +3,7 @@ use Rattle.std.proofs.Common.{◌≡◌, List, [], ◌∷◌, ◌++◌, refl, sy
 use Rattle.std.specs.declared.result.Result.{Result}
 use Rattle.std.specs.declared.result.Result.TheVariants.{Ok, Err}
 use Rattle.cat_api.specs.Operations.{Operation, operation}
-use Rattle.cat_api.specs.Operations.Operation.{Act, Ask, Tell}
+use Rattle.cat_api.specs.Operations.Operation.{Act, Ask, Tell, Show}
 use Rattle.cat_api.specs.Wire.{Wired, after_operation, after_requested, wire_after}
 use Rattle.cat_connection.specs.Items.{Item, message, refusal}
 use Rattle.cat_connection.specs.Worded.{Word, plain, memory, cut, untold, unkept, cut_unkept, after_items, item_after}
@@ -28,6 +28,7 @@ module _ (rules : Rules) where
   operation_makes word (Act d k) w = record { state = refl; settings = refl }
   operation_makes word (Ask question) w = record { state = refl; settings = refl }
   operation_makes word (Tell since) w = record { state = refl; settings = refl }
+  operation_makes word (Show file) w = record { state = refl; settings = refl }
 
   requested_makes : (word : Word) (r : Result Request Refusal) (w : Wired) → Makes (requested_run word r) w (after_requested rules word r w)
   requested_makes word (Ok request) w = operation_makes word (operation request) w

@@ -3,7 +3,7 @@ use Rattle.std.specs.Prelude.{ℕ, List, [], ◌∷◌, ◌++◌}
 use Rattle.std.specs.declared.result.Result.{Result}
 use Rattle.std.specs.declared.result.Result.TheVariants.{Ok, Err}
 use Rattle.cat_api.specs.Operations.{Operation, operation}
-use Rattle.cat_api.specs.Operations.Operation.{Act, Ask, Tell}
+use Rattle.cat_api.specs.Operations.Operation.{Act, Ask, Tell, Show}
 use Rattle.cat_api.specs.Wire.{Wired, deed_word, wire_after}
 use Rattle.cat_connection.specs.Items.{Item, message, refusal}
 use Rattle.cat_connection.specs.Worded.{Word as ItemWord, plain, memory, cut, untold, unkept, cut_unkept, after_items}
@@ -35,11 +35,12 @@ after_run rules s m (x ∷ steps) = after_run rules s (after_deed rules s x.mome
 
 -- ---- connections
 
--- the deed of an operation, at the moment 0; a question and an ask for changes have none
+-- the deed of an operation, at the moment 0; a question, an ask for changes and one for a file of the page have none
 abbrev pub operation_run : ItemWord → Operation → List Step
 operation_run word (Act d k) = record { moment = 0; word = deed_word word; deed = d } ∷ []
 operation_run word (Ask question) = []
 operation_run word (Tell since) = []
+operation_run word (Show file) = []
 
 -- the deed of what a message asks for; a refused one has none
 abbrev pub requested_run : ItemWord → Result Request Refusal → List Step

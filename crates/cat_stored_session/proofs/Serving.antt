@@ -7,7 +7,7 @@ use Rattle.cat_api.proofs.Serving.{acts_at, asks_at, tells_at, is_worded}
 use Rattle.cat_api.specs.Answering.{Acting, Asking, Telling, ActsBy, Carries, Answers, AnswersBytes, LacksIn, Lacks}
 use Rattle.cat_api.specs.Deeds.{act_answer, lacks_memory}
 use Rattle.cat_api.specs.Operations.{Operation, operation}
-use Rattle.cat_api.specs.Operations.Operation.{Act, Ask, Tell}
+use Rattle.cat_api.specs.Operations.Operation.{Act, Ask, Tell, Show}
 use Rattle.cat_api.specs.Wire.{Wired, after_operation, after_requested, operation_answer, requested_answer, wire_after, wire_reply}
 use Rattle.cat_api.specs.declared.kind.Kind.{Kind}
 use Rattle.cat_core.specs.declared.ledger.Ledger.{Ledger}
@@ -46,11 +46,13 @@ module _ (rules : Rules) (w : Wired) where
   operated (Act d k) = refl
   operated (Ask q) = refl
   operated (Tell since) = refl
+  operated (Show file) = refl
 
   told : (o : Operation) → operation_answer rules unkept o w ≡ operation_answer rules plain o w
   told (Act d k) = refl
   told (Ask q) = refl
   told (Tell since) = refl
+  told (Show file) = refl
 
   requested_after : (asked : Result Request Refusal) → after_requested rules unkept asked w ≡ after_requested rules plain asked w
   requested_after (Ok request) = operated (operation request)
@@ -74,11 +76,13 @@ module _ (rules : Rules) (w : Wired) where
     operated_cut (Act d k) = refl
     operated_cut (Ask q) = refl
     operated_cut (Tell since) = refl
+    operated_cut (Show file) = refl
 
     told_cut : (o : Operation) → operation_answer rules (cut_unkept n) o w ≡ operation_answer rules plain o w
     told_cut (Act d k) = refl
     told_cut (Ask q) = refl
     told_cut (Tell since) = refl
+    told_cut (Show file) = refl
 
     requested_after_cut : (asked : Result Request Refusal) → after_requested rules (cut_unkept n) asked w ≡ after_requested rules plain asked w
     requested_after_cut (Ok request) = operated_cut (operation request)
@@ -104,6 +108,7 @@ module _ (rules : Rules) (w : Wired) where
     operation_first (Act d k) h = ap (λ e. record w { catalogue = record w.catalogue { state = after_deed rules w.catalogue.settings 0 (deeds.cut n) e w.catalogue.state } }) (settle_is d h)
     operation_first (Ask q) h = absurd (true≢false (sym h))
     operation_first (Tell since) h = absurd (true≢false (sym h))
+    operation_first (Show file) h = absurd (true≢false (sym h))
 
     requested_first : (asked : Result Request Refusal) → may_be_cut asked ≡ true → after_requested rules (cut n) asked w ≡ first_events
     requested_first (Ok request) h = operation_first (operation request) h
@@ -219,6 +224,7 @@ module _ {A C : Type 0} (rules : Rules) (catalogue : A → Ledger) (clock : A �
     carried (Act d k) m r h = acted d k m r h
     carried (Ask q) m r h = inl ((h.0, h.1, (h.2.0, h.2.1.0), h.3, h.4), h.2.1.1)
     carried (Tell since) m r h = inl ((h.0, h.1, (h.2.0, λ i. (h.2.1.0 i, h.2.1.1.0 i)), h.3, h.4), h.2.1.1.1)
+    carried (Show file) m r h = inl (h, (ap place h.0, ap refusals h.0))
 
     requested : (asked : Result Request Refusal) (m : Message) (r : HttpReply) → Answers acts_kept asks_kept tells_kept old new asked m r
         → (Answers acts_plain asks_plain tells_plain old new asked m r × Stays old new) ⊎ ((IsRefused old new m r × (may_be_refused asked (catalogue old).state ≡ true)) ⊎ (IsCut old new m r × (may_be_cut asked ≡ true)))
@@ -247,6 +253,8 @@ module _ {A C : Type 0} (rules : Rules) (catalogue : A → Ledger) (clock : A �
       | inl e ↦ (inl e, (ap place e, ap refusals e))
       | inr l ↦ (inr (l.0, l.1, (l.2.0, λ i. (l.2.1.0 i, l.2.1.1.0 i))), l.2.1.1.1)
     ]
+
+    lacked_in (Show file) h = (h, (ap place h, ap refusals h))
 
     lacked : (asked : Result Request Refusal) → Lacks acts_kept asks_kept tells_kept old new asked → Lacks acts_plain asks_plain tells_plain old new asked × Stays old new
     lacked (Ok request) h = lacked_in (operation request) h

@@ -4,7 +4,7 @@ use Rattle.std.specs.declared.option.Option.TheVariants.{Some}
 use Rattle.std.specs.declared.result.Result.{Result}
 use Rattle.std.specs.declared.result.Result.TheVariants.{Ok, Err}
 use Rattle.cat_api.specs.Operations.{Operation, operation}
-use Rattle.cat_api.specs.Operations.Operation.{Act, Ask, Tell}
+use Rattle.cat_api.specs.Operations.Operation.{Act, Ask, Tell, Show}
 use Rattle.cat_api.specs.Wire.{Wired, wire_after, wire_reply}
 use Rattle.cat_http.specs.Reply.{reply_bytes}
 use Rattle.cat_http.specs.declared.message.Message.{Message}
@@ -33,6 +33,7 @@ abbrev pub is_single : Operation → State → Bool
 is_single (Act d k) m = not (leaves_rows d m) && not (is_settle d)
 is_single (Ask q) m = false
 is_single (Tell since) m = false
+is_single (Show file) m = false
 
 -- the same of what was read of a message
 abbrev pub may_be_refused : Result Request Refusal → State → Bool
@@ -44,6 +45,7 @@ abbrev pub settles : Operation → Bool
 settles (Act d k) = is_settle d
 settles (Ask q) = false
 settles (Tell since) = false
+settles (Show file) = false
 
 -- the same of what was read of a message
 abbrev pub may_be_cut : Result Request Refusal → Bool
