@@ -1,2 +1,4 @@
+pub mod Reads
+pub mod Given
 pub mod Options
 pub mod Words

@@ -1,69 +1,65 @@
--- The options of `serve`.
-use Rattle.std.specs.Prelude.{ℕ, List, [], ◌∷◌, Bool, true, false, Option, None, Some, bytes_eq, codes, nat_eq, nat_lt, nat_le, ◌&&◌, ◌||◌, if◌then◌else◌, option_map, option_and_then, unwrap_or}
-use Rattle.std.specs.List.{starts_with}
+-- What the options of a command say.
+use Rattle.std.specs.Prelude.{ℕ, List, Option, None, Some, bytes_eq, codes, nat_lt, nat_le, ◌&&◌, if◌then◌else◌, option_map, option_and_then}
+use Rattle.clap.specs.Walk.{Row, Text, first_of}
 use Rattle.cat_session_lines.specs.Arguments.{number}
+use Rattle.cat_keeper.specs.declared.keeper.Place.{Place}
+use Rattle.cat_keeper.specs.declared.keeper.Place.TheVariants.{File, Journal}
 use Rattle.cat_model.specs.declared.types.OrphanRule.{OrphanRule}
 use Rattle.cat_model.specs.declared.types.OrphanRule.TheVariants.{Keep, Delete}
-use Rattle.cat_command_line.specs.declared.options.Options.{Options}
+use Rattle.cat_command_line.specs.declared.options.CatalogueOptions.{CatalogueOptions}
+use Rattle.cat_command_line.specs.declared.options.ServerOptions.{ServerOptions}
 use Rattle.cat_command_line.specs.declared.options.Serving.{Serving}
 
+-- ---- a catalogue
+
 -- the rule for orphans that a word names
-abbrev pub rule_of : List ℕ → Option OrphanRule
+abbrev pub rule_of : Text → Option OrphanRule
 rule_of word = if bytes_eq word (codes "keep") then Some Keep else (if bytes_eq word (codes "delete") then Some Delete else None)
 
--- the value of an option that wasn't given before
-abbrev pub once : {T : Type 0} → Option T → Option T → Option T
-once None value = value
-once (Some before) value = None
+-- the rule for orphans that was given, if one was
+abbrev pub orphans : Option Text → Option (Option OrphanRule)
+orphans None = Some None
+orphans (Some word) = option_map Some (rule_of word)
 
--- each option with its value, beside those that were given before it
-abbrev pub with_orphans : Options → List ℕ → Option Options
-with_orphans o value = option_map (λ rule. record o { orphans = Some rule }) (once o.orphans (rule_of value))
+-- the place that was given, if one was: a database or a journal, and not both
+abbrev pub place : Option Text → Option Text → Option (Option Place)
+place None None = Some None
+place (Some file) None = Some (Some (File file))
+place None (Some file) = Some (Some (Journal file))
+place (Some store) (Some journal) = None
 
--- the option names a file that keeps rows: a database, or a journal
-abbrev pub is_kept : List ℕ → Bool
-is_kept option = bytes_eq option (codes "--store") || bytes_eq option (codes "--journal")
+abbrev pub catalogue_by : Option (Option OrphanRule) → Option (Option Place) → Option CatalogueOptions
+catalogue_by None place = None
+catalogue_by (Some orphans) place = option_map (λ at. record { orphans = orphans; place = at }) place
 
--- one file at most keeps the rows
-abbrev pub with_kept : Options → Option Options
-with_kept o = if o.kept then None else Some (record o { kept = true })
+-- the catalogue that a command is over
+abbrev pub catalogue_options : List Row → Option CatalogueOptions
+catalogue_options rows = catalogue_by (orphans (first_of (codes "orphans") rows)) (place (first_of (codes "store") rows) (first_of (codes "journal") rows))
 
-abbrev pub with_workers : Options → List ℕ → Option Options
-with_workers o value = option_map (λ count. record o { workers = Some count }) (once o.workers (number value))
+-- ---- a server
 
-abbrev pub with_connections : Options → List ℕ → Option Options
-with_connections o value = option_map (λ count. record o { connections = Some count }) (once o.connections (number value))
+-- so many pairs of workers, or connections at once
+abbrev pub crew_of : ℕ → Option ℕ
+crew_of count = if nat_lt 0 count && nat_le count 16 then Some count else None
 
--- an option, by its name
-abbrev pub with_option : Options → List ℕ → List ℕ → Option Options
-with_option o name value =
-    if bytes_eq name (codes "--orphans") then with_orphans o value
-    else (if bytes_eq name (codes "--workers") then with_workers o value
-    else (if bytes_eq name (codes "--connections") then with_connections o value
-    else (if is_kept name then with_kept o else None)))
+-- the number that was given, or else the usual one
+abbrev pub crew : Option Text → ℕ → Option ℕ
+crew None usual = Some usual
+crew (Some word) usual = option_and_then crew_of (number word)
 
--- options that stand one behind the other, each in two words
-abbrev pub with_options : Options → List (List ℕ) → Option Options
-with_options o [] = Some o
-with_options o (name ∷ []) = None
-with_options o (name ∷ value ∷ words) = option_and_then (λ more. with_options more words) (with_option o name value)
+abbrev pub server_by : Option ℕ → Option ℕ → Option ServerOptions
+server_by None connections = None
+server_by (Some workers) connections = option_map (λ count. record { workers = workers; connections = count }) connections
 
--- so many may work, and so many be served at once
-abbrev pub is_crew : ℕ → Bool
-is_crew count = nat_lt 0 count && nat_le count 16
+-- how a server serves: with two pairs of workers and four connections at once, where nothing else was given
+abbrev pub server_options : List Row → Option ServerOptions
+server_options rows = server_by (crew (first_of (codes "workers") rows) 2) (crew (first_of (codes "connections") rows) 4)
 
-abbrev pub serving_within : Option OrphanRule → Bool → ℕ → ℕ → Option Serving
-serving_within rule kept workers connections =
-    if is_crew workers && is_crew connections then Some (record { orphans = rule; kept = kept; workers = workers; connections = connections }) else None
+abbrev pub serving_by : Option Text → Option CatalogueOptions → Option ServerOptions → Option Serving
+serving_by None catalogue server = None
+serving_by (Some address) None server = None
+serving_by (Some address) (Some catalogue) server = option_map (λ how. record { address = address; catalogue = catalogue; server = how }) server
 
--- how a server runs that was given these options
-abbrev pub serving_by : Options → Option Serving
-serving_by o = serving_within o.orphans o.kept (unwrap_or o.workers 2) (unwrap_or o.connections 4)
-
-abbrev pub no_options : Options
-no_options = record { orphans = None; kept = false; workers = None; connections = None }
-
--- how a server runs by the words behind `serve`: an address, which doesn't begin as an option does, and the options
-abbrev pub serving_of : List (List ℕ) → Option Serving
-serving_of [] = None
-serving_of (address ∷ words) = if starts_with nat_eq address (codes "--") then None else option_and_then serving_by (with_options no_options words)
+-- a server
+abbrev pub serving_of : List Row → Option Serving
+serving_of rows = serving_by (first_of (codes "address") rows) (catalogue_options rows) (server_options rows)

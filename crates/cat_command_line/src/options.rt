@@ -1,9 +1,15 @@
-//! The options of `serve`.
-ghost use Rattle.std.specs.Prelude.{◌≡◌, map, string_bytes};
+//! What the options of a command say.
+ghost use Rattle.std.specs.Prelude.{◌≡◌, ◌<◌, IfOk, Option, option_map};
 ghost use Rattle.cat_command_line.specs.Options as spec;
+ghost use Rattle.cat_command_line.specs.Reads.{Reads};
 
+use crate::given::Given;
+use crate::words::WordFault;
+use cat_keeper::keeper::Place;
 use cat_model::types::OrphanRule;
 use cat_session_lines::argument::number;
+use cat_tree::text::Text;
+use std::alloc::Global;
 
 /// The most pairs of workers, and the most connections at once.
 const MOST: u64 = 16;
@@ -14,30 +20,37 @@ const WORKERS: u64 = 2;
 /// How many connections are served at once, where no option says it.
 const CONNECTIONS: u64 = 4;
 
-/// How a server runs: what it does with orphans, whether a file keeps its catalogue, and who works and who serves.
-#[derive(Clone, Copy, Debug, Drop, PartialEq, Eq)]
-pub struct Serving {
+/// Which catalogue a command is over.
+#[derive(Drop)]
+pub struct CatalogueOptions {
     /// What becomes of orphans, if an option says it.
     pub orphans: Option<OrphanRule>,
-    /// Whether a file keeps its catalogue.
-    pub kept: bool,
+    /// Where the catalogue is kept, if it is.
+    pub place: Option<Place>,
+}
+
+/// How a server serves.
+#[derive(Clone, Copy, Debug, Drop, PartialEq, Eq)]
+pub struct ServerOptions {
     /// How many pairs of workers there are: 1 to 16.
     pub workers: u64,
     /// How many connections are served at once: 1 to 16.
     pub connections: u64,
 }
 
-/// The options that were given, each with its value.
-#[derive(Clone, Copy, Drop)]
-struct Options {
-    orphans: Option<OrphanRule>,
-    kept: bool,
-    workers: Option<u64>,
-    connections: Option<u64>,
+/// A server: where it listens, over which catalogue, and how it serves.
+#[derive(Drop)]
+pub struct Serving {
+    /// The address at which it listens.
+    pub address: Text,
+    /// The catalogue that it serves.
+    pub catalogue: CatalogueOptions,
+    /// How it serves.
+    pub server: ServerOptions,
 }
 
-/// The rule for orphans that a word names.
-pub(crate) fn rule_of(word: &str) -> Option<OrphanRule>
+// The rule for orphans that a word names.
+fn rule_of(word: &str) -> Option<OrphanRule>
     ensures { result ≡ spec.rule_of word.now }
 {
     match word {
@@ -47,139 +60,105 @@ pub(crate) fn rule_of(word: &str) -> Option<OrphanRule>
     }
 }
 
-// The value of an option that wasn't given before.
-fn once<T: Copy>(before: Option<T>, value: Option<T>) -> Option<T>
-    ensures { result ≡ spec.once before value }
+// The rule for orphans that was given, if one was.
+fn orphans(word: Option<&str>) -> Result<Option<OrphanRule>, WordFault>
+    ensures { Reads (spec.orphans (option_map (λ s. s.now) word.entry)) result }
 {
-    match before {
-        None => value,
-        Some(_) => None,
+    match word {
+        None => Ok(None),
+        Some(word) => match rule_of(word) {
+            Some(rule) => Ok(Some(rule)),
+            None => Err(WordFault::Usage),
+        },
     }
 }
 
-fn with_orphans(options: Options, value: &str) -> Option<Options>
-    ensures { result ≡ spec.with_orphans options value.now }
+// The place that was given, if one was: a database or a journal.
+fn place(
+    alloc: Global,
+    store: Option<&str>,
+    journal: Option<&str>,
+) -> Result<Option<Place>, WordFault>
+    ensures { Reads (spec.place (option_map (λ s. s.now) store.entry) (option_map (λ s. s.now) journal.entry)) result }
 {
-    let orphans = Some(once(options.orphans, rule_of(value))?);
-    Some(Options { orphans, ..options })
+    match (store, journal) {
+        (None, None) => Ok(None),
+        (Some(file), None) => Ok(Some(Place::File(Text::of(alloc, file)?))),
+        (None, Some(file)) => Ok(Some(Place::Journal(Text::of(alloc, file)?))),
+        (Some(_), Some(_)) => Err(WordFault::Usage),
+    }
 }
 
-/// Whether an option names a file that keeps rows: a database, or a journal.
-pub(crate) fn is_kept(option: &str) -> bool
-    ensures { result ≡ spec.is_kept option.now }
+/// Which catalogue a command is over.
+pub(crate) fn catalogue_options(alloc: Global, given: &Given) -> Result<CatalogueOptions, WordFault>
+    ensures { Reads (spec.catalogue_options given.now) result }
 {
-    option == "--store" || option == "--journal"
+    let orphans = orphans(given.text("orphans"))?;
+    let place = place(alloc, given.text("store"), given.text("journal"))?;
+    Ok(CatalogueOptions { orphans, place })
 }
 
-fn with_kept(options: Options) -> Option<Options>
-    ensures { result ≡ spec.with_kept options }
+// A number of workers or of connections.
+fn crew_of(count: u64) -> Result<u64, WordFault>
+    ensures value { Reads (spec.crew_of count) result }
+    ensures within { IfOk result (λ n. 0 < n) }
 {
-    if options.kept {
-        None
+    if 0 < count && count <= MOST {
+        Ok(count)
     } else {
-        Some(Options {
-            kept: true,
-            ..options
-        })
+        Err(WordFault::Usage)
     }
 }
 
-fn with_workers(options: Options, value: &str) -> Option<Options>
-    ensures { result ≡ spec.with_workers options value.now }
+// The number of workers or of connections that was given, or else the usual one.
+fn crew(word: Option<&str>, usual: u64) -> Result<u64, WordFault>
+    requires { 0 < usual }
+    ensures value { Reads (spec.crew (option_map (λ s. s.now) word.entry) usual) result }
+    ensures within { IfOk result (λ n. 0 < n) }
 {
-    let workers = Some(once(options.workers, number(value))?);
-    Some(Options { workers, ..options })
+    match word {
+        None => Ok(usual),
+        Some(word) => match number(word) {
+            Some(count) => crew_of(count),
+            None => Err(WordFault::Usage),
+        },
+    }
 }
 
-fn with_connections(options: Options, value: &str) -> Option<Options>
-    ensures { result ≡ spec.with_connections options value.now }
+// How a server serves.
+fn server_options(given: &Given) -> Result<ServerOptions, WordFault>
+    ensures value { Reads (spec.server_options given.now) result }
+    ensures within { IfOk result (λ options. 0 < options.connections) }
 {
-    let connections = Some(once(options.connections, number(value))?);
-    Some(Options {
+    let workers = crew(given.text("workers"), WORKERS)?;
+    let connections = crew(given.text("connections"), CONNECTIONS)?;
+    Ok(ServerOptions {
+        workers,
         connections,
-        ..options
     })
 }
 
-fn with_option(options: Options, name: &str, value: &str) -> Option<Options>
-    ensures { result ≡ spec.with_option options name.now value.now }
+// The address that was given.
+fn address(alloc: Global, word: Option<&str>) -> Result<Text, WordFault>
+    ensures { Reads (option_map (λ s. s.now) word.entry) result }
 {
-    match name {
-        "--orphans" => with_orphans(options, value),
-        "--workers" => with_workers(options, value),
-        "--connections" => with_connections(options, value),
-        _ if is_kept(name) => with_kept(options),
-        _ => None,
+    match word {
+        Some(address) => Ok(Text::of(alloc, address)?),
+        None => Err(WordFault::Usage),
     }
 }
 
-fn with_options(options: Options, words: &[String]) -> Option<Options>
-    ensures { result ≡ spec.with_options options (map string_bytes words.now) }
+/// A server, as its address and its options say.
+pub(crate) fn serving_of(alloc: Global, given: &Given) -> Result<Serving, WordFault>
+    ensures value { Reads (spec.serving_of given.now) result }
+    ensures within { IfOk result (λ s. 0 < s.server.connections) }
 {
-    match words {
-        [] => Some(options),
-        [name, value, rest @ ..] => {
-            with_options(with_option(options, name.as_str(), value.as_str())?, rest)
-        }
-        _ => None,
-    }
-}
-
-// So many may work, and so many be served at once.
-fn is_crew(count: u64) -> bool
-    ensures { result ≡ spec.is_crew count }
-{
-    0 < count && count <= MOST
-}
-
-fn serving_within(
-    orphans: Option<OrphanRule>,
-    kept: bool,
-    workers: u64,
-    connections: u64,
-) -> Option<Serving>
-    ensures { result ≡ spec.serving_within orphans kept workers connections }
-{
-    if is_crew(workers) && is_crew(connections) {
-        Some(Serving {
-            orphans,
-            kept,
-            workers,
-            connections,
-        })
-    } else {
-        None
-    }
-}
-
-// How a server runs that was given these options.
-fn serving_by(options: Options) -> Option<Serving>
-    ensures { result ≡ spec.serving_by options }
-{
-    serving_within(
-        options.orphans,
-        options.kept,
-        options.workers.unwrap_or(WORKERS),
-        options.connections.unwrap_or(CONNECTIONS),
-    )
-}
-
-/// How a server runs by the words behind `serve`, if they are right: an address, which doesn't begin with `--`, and then options, each
-/// at most once and in any order: `--orphans` with `keep` or `delete`, `--workers` and `--connections` with 1 to 16, and one of `--store` and
-/// `--journal` with a file. Without them it has two pairs of workers, and serves four connections at once.
-pub(crate) fn serving_of(words: &[String]) -> Option<Serving>
-    ensures { result ≡ spec.serving_of (map string_bytes words.now) }
-{
-    match words {
-        [address, options @ ..] if !address.as_bytes().starts_with(b"--") => {
-            let none = Options {
-                orphans: None,
-                kept: false,
-                workers: None,
-                connections: None,
-            };
-            serving_by(with_options(none, options)?)
-        }
-        _ => None,
-    }
+    let address = address(alloc, given.text("address"))?;
+    let catalogue = catalogue_options(alloc, given)?;
+    let server = server_options(given)?;
+    Ok(Serving {
+        address,
+        catalogue,
+        server,
+    })
 }

@@ -1,12 +1,12 @@
 //! The words of a command line.
-ghost use Rattle.std.specs.Prelude.{◌≡◌, ◌<◌, ◌≤◌, ◌^◌, IfOk, map, string_bytes};
+ghost use Rattle.std.specs.Prelude.{◌≡◌, ◌<◌, ◌^◌, IfOk, Option, map, option_map, string_bytes};
+ghost use Rattle.cat_command_line.specs.Reads.{Reads};
 ghost use Rattle.cat_command_line.specs.Words as spec;
+ghost use Rattle.cat_command_line.specs.Words.{IsWithin};
 
-use crate::options::{Serving, is_kept, rule_of, serving_of};
-use cat_keeper::keeper::Place;
-use cat_model::types::OrphanRule;
+use crate::given::{catalogue_given, mirror_given, sample_given, server_given};
+use crate::options::{CatalogueOptions, Serving, catalogue_options, serving_of};
 use cat_session_lines::argument::number;
-use cat_tree::text::Text;
 use std::alloc::{AllocError, Global};
 
 /// The greatest seed, and one more.
@@ -15,223 +15,160 @@ const SEEDS: u64 = 1 << 31;
 /// The most Components of a sample.
 const MOST_COMPONENTS: u64 = 50_000;
 
-/// A command of the program.
+/// A sample catalogue.
 #[derive(Clone, Copy, Debug, Drop, PartialEq, Eq)]
+pub struct Sample {
+    /// What it is drawn from: below 2^31.
+    pub seed: u64,
+    /// How many Components it has: 1 to 50,000.
+    pub count: u64,
+}
+
+/// A command of the program, with all that its words say.
+#[derive(Drop)]
 pub enum Command {
-    /// Answer the lines of the input, under a rule for orphans.
-    Session(OrphanRule),
-    /// Answer the lines of the input over the catalogue that a file keeps, under this rule for orphans, or else under the stored one.
-    Stored(Option<OrphanRule>),
-    /// Answer the HTTP messages of the input, under a rule for orphans.
-    Wire(OrphanRule),
-    /// Answer the HTTP messages of the input over the catalogue that a file keeps, under this rule for orphans, or else under the stored one.
-    StoredWire(Option<OrphanRule>),
-    /// Serve HTTP connections at an address, the second word, with workers beside them.
+    /// Answer the lines of the input.
+    Session(CatalogueOptions),
+    /// Answer the HTTP messages of the input.
+    Wire(CatalogueOptions),
+    /// Serve HTTP connections at an address, with workers beside them.
     Serve(Serving),
     /// Follow the feed whose changes are the lines of the input.
     Mirror,
-    /// Make a sample from a seed, with so many Components, and say what came of it.
-    Sample(u64, u64),
+    /// Make a sample, and say what came of it.
+    Sample(Sample),
 }
 
-// The command of a word that stands alone, or under a rule for orphans.
-fn under(rule: OrphanRule, word: &str) -> Option<Command>
-    ensures { result ≡ spec.under rule word.now }
+/// Why words give no command.
+#[derive(Clone, Copy, Debug, Drop, PartialEq, Eq)]
+pub enum WordFault {
+    /// They are none.
+    Usage,
+    /// Memory is wanted.
+    NoMemory,
+}
+
+impl From<AllocError> for WordFault {
+    ghost use Rattle.std.specs.Prelude.{◌≡◌};
+    ghost use Rattle.cat_command_line.specs.declared.words.WordFault.TheVariants.{NoMemory};
+
+    ghost from_gives = { λ _ fault. fault ≡ NoMemory };
+
+    fn from(_refused: AllocError) -> WordFault {
+        WordFault::NoMemory
+    }
+}
+
+// A session or a connection: the catalogue that it is over.
+fn catalogue<'a>(
+    alloc: Global,
+    name: &'a str,
+    words: &'a [String],
+) -> Result<CatalogueOptions, WordFault>
+    ensures { Reads (spec.catalogue name.entry.now (map string_bytes words.entry.now)) result }
+{
+    let given = catalogue_given(alloc, name, words)?;
+    catalogue_options(alloc, &given)
+}
+
+fn session(alloc: Global, words: &[String]) -> Result<Command, WordFault>
+    ensures { Reads (spec.session (map string_bytes words.now)) result }
+{
+    Ok(Command::Session(catalogue(alloc, "session", words)?))
+}
+
+fn wire(alloc: Global, words: &[String]) -> Result<Command, WordFault>
+    ensures { Reads (spec.wire (map string_bytes words.now)) result }
+{
+    Ok(Command::Wire(catalogue(alloc, "wire", words)?))
+}
+
+fn server(alloc: Global, words: &[String]) -> Result<Serving, WordFault>
+    ensures value { Reads (spec.server (map string_bytes words.now)) result }
+    ensures within { IfOk result (λ s. 0 < s.server.connections) }
+{
+    let given = server_given(alloc, "serve", words)?;
+    serving_of(alloc, &given)
+}
+
+fn serve(alloc: Global, words: &[String]) -> Result<Command, WordFault>
+    ensures value { Reads (spec.serve (map string_bytes words.now)) result }
+    ensures within { IfOk result IsWithin }
+{
+    Ok(Command::Serve(server(alloc, words)?))
+}
+
+fn mirror(alloc: Global, words: &[String]) -> Result<Command, WordFault>
+    ensures { Reads (spec.mirror (map string_bytes words.now)) result }
+{
+    let _given = mirror_given(alloc, "mirror", words)?;
+    Ok(Command::Mirror)
+}
+
+// A sample whose numbers are within their bounds.
+fn sample_of(seed: u64, count: u64) -> Result<Sample, WordFault>
+    ensures value { Reads (spec.sample_of seed count) result }
+    ensures within { IfOk result (λ sample. sample.seed < 2 ^ 31) }
+{
+    if seed < SEEDS && (0 < count && count <= MOST_COMPONENTS) {
+        Ok(Sample { seed, count })
+    } else {
+        Err(WordFault::Usage)
+    }
+}
+
+// The number of a word that was given.
+fn number_of(word: Option<&str>) -> Result<u64, WordFault>
+    ensures { Reads (spec.number_of (option_map (λ s. s.now) word.entry)) result }
 {
     match word {
-        "session" => Some(Command::Session(rule)),
-        "wire" => Some(Command::Wire(rule)),
-        _ => None,
+        Some(word) => number(word).ok_or(WordFault::Usage),
+        None => Err(WordFault::Usage),
     }
 }
 
-fn alone(word: &str) -> Option<Command>
-    ensures { result ≡ spec.alone word.now }
+fn sample_numbers(alloc: Global, words: &[String]) -> Result<Sample, WordFault>
+    ensures value { Reads (spec.sample_numbers (map string_bytes words.now)) result }
+    ensures within { IfOk result (λ sample. sample.seed < 2 ^ 31) }
 {
-    if word == "mirror" {
-        Some(Command::Mirror)
-    } else {
-        under(OrphanRule::Keep, word)
+    let given = sample_given(alloc, "sample", words)?;
+    let seed = number_of(given.text("seed"))?;
+    let count = number_of(given.text("count"))?;
+    sample_of(seed, count)
+}
+
+fn sample_command(alloc: Global, words: &[String]) -> Result<Command, WordFault>
+    ensures value { Reads (spec.sample_command (map string_bytes words.now)) result }
+    ensures within { IfOk result IsWithin }
+{
+    Ok(Command::Sample(sample_numbers(alloc, words)?))
+}
+
+// The command that a word names, with the words that it stands before.
+fn command_named(alloc: Global, name: &str, words: &[String]) -> Result<Command, WordFault>
+    ensures value { Reads (spec.command_named name.now (map string_bytes words.now)) result }
+    ensures within { IfOk result IsWithin }
+{
+    match name {
+        "session" => session(alloc, words),
+        "wire" => wire(alloc, words),
+        "serve" => serve(alloc, words),
+        "mirror" => mirror(alloc, words),
+        "sample" => sample_command(alloc, words),
+        _ => Err(WordFault::Usage),
     }
 }
 
-fn with_rule(rule: Option<OrphanRule>, word: &str) -> Option<Command>
-    ensures { result ≡ spec.with_rule rule word.now }
-{
-    match rule {
-        Some(rule) => under(rule, word),
-        None => None,
-    }
-}
-
-// A session or a connection over a store, under the rule that a word names.
-fn stored_under(rule: Option<OrphanRule>, word: &str) -> Option<Command>
-    ensures { result ≡ spec.stored_under rule word.now }
-{
-    match rule {
-        Some(rule) => stored(Some(rule), word),
-        None => None,
-    }
-}
-
-// A session or a connection over a store.
-fn stored(rule: Option<OrphanRule>, word: &str) -> Option<Command>
-    ensures { result ≡ spec.stored rule word.now }
-{
-    match word {
-        "session" => Some(Command::Stored(rule)),
-        "wire" => Some(Command::StoredWire(rule)),
-        _ => None,
-    }
-}
-
-fn sample_of(seed: Option<u64>, count: Option<u64>) -> Option<Command>
-    ensures { result ≡ spec.sample_of seed count }
-{
-    match (seed, count) {
-        (Some(seed), Some(count)) => {
-            if seed < SEEDS && (0 < count && count <= MOST_COMPONENTS) {
-                Some(Command::Sample(seed, count))
-            } else {
-                None
-            }
-        }
-        _ => None,
-    }
-}
-
-fn with_two(word: &str, one: &str, two: &str) -> Option<Command>
-    ensures { result ≡ spec.with_two word.now one.now two.now }
-{
-    if word == "sample" {
-        sample_of(number(one), number(two))
-    } else if one == "--orphans" {
-        with_rule(rule_of(two), word)
-    } else if is_kept(one) {
-        stored(None, word)
-    } else {
-        None
-    }
-}
-
-fn with_four(word: &str, one: &str, two: &str, three: &str, four: &str) -> Option<Command>
-    ensures { result ≡ spec.with_four word.now one.now two.now three.now four.now }
-{
-    if is_kept(one) && three == "--orphans" {
-        stored_under(rule_of(four), word)
-    } else if one == "--orphans" && is_kept(three) {
-        stored_under(rule_of(two), word)
-    } else {
-        None
-    }
-}
-
-fn serve(words: &[String]) -> Option<Command>
-    ensures { result ≡ spec.serve (map string_bytes words.now) }
-{
-    Some(Command::Serve(serving_of(words)?))
-}
-
-// The command of a word with two words or more behind it.
-fn with_more(word: &str, one: &str, two: &str, rest: &[String]) -> Option<Command>
-    ensures { result ≡ spec.with_more word.now one.now two.now (map string_bytes rest.now) }
-{
-    match rest {
-        [] => with_two(word, one, two),
-        [_] => None,
-        [three, four] => with_four(word, one, two, three.as_str(), four.as_str()),
-        [_, _, _, ..] => None,
-    }
-}
-
-fn without_serve(word: &str, words: &[String]) -> Option<Command>
-    ensures { result ≡ spec.without_serve word.now (map string_bytes words.now) }
+/// The command of the words, if they are one. The first of them names it, and clap reads those behind it, of which each option stands once at most, as `--NAME VALUE`
+/// or `--NAME=VALUE`, in any order: `session` and `wire` with `--orphans` and `keep` or `delete`, and with `--store` or `--journal` and a file; `serve` with an address, the same
+/// options, and `--workers` and `--connections` with 1 to 16; `mirror` alone; and `sample` with a seed below 2^31 and a count of 1 to 50,000. Numbers are 1 to 20 decimal
+/// digits.
+pub fn command_of(alloc: Global, words: &[String]) -> Result<Command, WordFault>
+    ensures value { Reads (spec.command_of (map string_bytes words.now)) result }
+    ensures within { IfOk result IsWithin }
 {
     match words {
-        [] => alone(word),
-        [_] => None,
-        [one, two, rest @ ..] => with_more(word, one.as_str(), two.as_str(), rest),
-    }
-}
-
-/// The command of the words, if they are one: `session` or `wire`, alone or with `--orphans` and `keep` or `delete`, where alone is
-/// `keep`; each of them with `--store` or `--journal` and a file, alone or with that option before or behind it; `serve` with an address and options;
-/// `mirror`; or `sample` with a seed below 2^31 and a count of 1 to 50,000, both of 1 to 20 decimal digits.
-pub fn command_of(words: &[String]) -> Option<Command>
-    ensures { result ≡ spec.command_of (map string_bytes words.now) }
-{
-    match words {
-        [] => None,
-        [word, rest @ ..] => {
-            if word.as_str() == "serve" {
-                serve(rest)
-            } else {
-                without_serve(word.as_str(), rest)
-            }
-        }
-    }
-}
-
-// The place that an option and its value name.
-fn kept_at(alloc: Global, option: &str, file: &str) -> Result<Place, AllocError>
-    ensures { IfOk result (λ place. place ≡ spec.kept_at option.now file.now) }
-{
-    let file = Text::of(alloc, file)?;
-    if option == "--journal" {
-        Ok(Place::Journal(file))
-    } else {
-        Ok(Place::File(file))
-    }
-}
-
-// The place that the first option which names a file names.
-fn place_among(alloc: Global, words: &[String]) -> Result<Place, AllocError>
-    ensures { IfOk result (λ place. place ≡ spec.place_among (map string_bytes words.now)) }
-{
-    match words {
-        [option, value, rest @ ..] => {
-            if is_kept(option.as_str()) {
-                kept_at(alloc, option.as_str(), value.as_str())
-            } else {
-                place_among(alloc, rest)
-            }
-        }
-        _ => Ok(Place::File(Text::of(alloc, "")?)),
-    }
-}
-
-// The place of a server, behind its address.
-fn place_behind(alloc: Global, words: &[String]) -> Result<Place, AllocError>
-    ensures { IfOk result (λ place. place ≡ spec.place_behind (map string_bytes words.now)) }
-{
-    match words {
-        [] => Ok(Place::File(Text::of(alloc, "")?)),
-        [_, options @ ..] => place_among(alloc, options),
-    }
-}
-
-/// The place of a session, a connection or a server over a store: the file behind `--store` or `--journal`.
-pub fn place_of(alloc: Global, words: &[String]) -> Result<Place, AllocError>
-    ensures { IfOk result (λ place. place ≡ spec.place_of (map string_bytes words.now)) }
-{
-    match words {
-        [] => Ok(Place::File(Text::of(alloc, "")?)),
-        [word, rest @ ..] => {
-            if word.as_str() == "serve" {
-                place_behind(alloc, rest)
-            } else {
-                place_among(alloc, rest)
-            }
-        }
-    }
-}
-
-/// The address of a `serve`: the second of its words.
-pub fn address_of(words: &[String]) -> &str
-    ensures { result.now ≡ spec.address_of (map string_bytes words.now) }
-{
-    match words {
-        [_, address, ..] => address.as_str(),
-        _ => "",
+        [] => Err(WordFault::Usage),
+        [name, ..] => command_named(alloc, name.as_str(), words),
     }
 }

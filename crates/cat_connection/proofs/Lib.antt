@@ -3,3 +3,4 @@ pub mod Preceding
 pub mod Running
 pub mod Connections
 pub mod Wording
+pub mod Telling

@@ -20,6 +20,6 @@ mod machine;
 mod message_loop;
 mod window;
 
-pub use command::{Status, USAGE, answer_lines, answer_messages, tell, usage};
+pub use command::{Status, answer_lines, answer_messages, tell, usage};
 pub use machine::Machine;
 pub use message_loop::{ConnEnd, connection, messages_are_one};

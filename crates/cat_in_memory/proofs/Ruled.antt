@@ -1,5 +1,5 @@
 -- A session that carries its rule for orphans does what the session under that rule does.
-use Rattle.std.proofs.Common.{◌≡◌, ℕ, ◌-◌, Bool, true, false, nat_lt, if◌then◌else◌, List, [], ◌∷◌, ◌++◌, length, take, refl, sym, ap, ◌∙◌, ◌⊎◌, inl, inr, ⊎_elim, subst, IfSome}
+use Rattle.std.proofs.Common.{◌≡◌, ℕ, ◌-◌, Bool, true, false, nat_lt, if◌then◌else◌, List, [], ◌∷◌, ◌++◌, length, take, refl, sym, ap, ◌∙◌, inl, inr, ⊎_elim, subst, IfSome}
 use Rattle.std.specs.declared.option.Option.{Option}
 use Rattle.std.specs.declared.option.Option.TheVariants.{None, Some}
 use Rattle.std.specs.Io.KnownBytes.{Appends}
@@ -13,6 +13,7 @@ use Rattle.cat_model.specs.Catalogue.{Rules}
 use Rattle.cat_model.specs.declared.types.OrphanRule.{OrphanRule}
 use Rattle.cat_model.specs.declared.types.Settings.{Settings}
 use Rattle.cat_connection.specs.Status.{HasRun}
+use Rattle.cat_connection.specs.declared.command.Status.{Status}
 use Rattle.cat_session_model.specs.Program.{program_settings, ruled_after, ruled_reply, session_start}
 use Rattle.cat_session_model.specs.Session.{session_after, session_reply}
 use Rattle.cat_session_model.specs.declared.state.RuledSession.{RuledSession}
@@ -114,11 +115,11 @@ module _ (rules : Rules) (rule : OrphanRule) where
     told end (Some bytes) written written' h = transcript end written written' bytes h
 
     -- a run of the one is a run of the other
-    pub has_run : (status : ℕ) (left left' written written' : Option (List ℕ)) → HasRun (ruled_after rules) (ruled_reply rules) status left left' written written' (ruled m) new → HasRun (session_after rules s) (session_reply rules s) status left left' written written' m new.session
+    pub has_run : (status : Status) (left left' written written' : Option (List ℕ)) → HasRun (ruled_after rules) (ruled_reply rules) status left left' written written' (ruled m) new → HasRun (session_after rules s) (session_reply rules s) status left left' written written' m new.session
     has_run status left left' written written' h = (h.0, h.1, outcome h.0 left left' written written' h.2, told h.0 left written written' h.3)
 
   -- a run from the start of a session under its rule is one from the start under that rule
-  pub ran : (status : ℕ) (left left' written written' : Option (List ℕ)) (m new : RuledSession) → m ≡ ruled session_start
+  pub ran : (status : Status) (left left' written written' : Option (List ℕ)) (m new : RuledSession) → m ≡ ruled session_start
       → HasRun (ruled_after rules) (ruled_reply rules) status left left' written written' m new → (end : SessionState) × HasRun (session_after rules s) (session_reply rules s) status left left' written written' session_start end
   ran status left left' written written' m new is h =
       (new.session, has_run session_start new status left left' written written' (subst (λ n. HasRun (ruled_after rules) (ruled_reply rules) status left left' written written' n new) is h))

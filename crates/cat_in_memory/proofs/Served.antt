@@ -12,6 +12,7 @@ use Rattle.cat_connection.specs.Runs.{Answering, Lacking, AnswersItems}
 use Rattle.cat_connection.specs.Worded.{HasWords, IsWorded}
 use Rattle.cat_connection.proofs.Wording.{outcome_worded, transcript_worded}
 use Rattle.cat_connection.specs.Status.{HasServed}
+use Rattle.cat_connection.specs.declared.command.Status.{Status}
 
 module _ {S A T : Type 0} (old new : S) (desk : S → A) (timed : A → T) (catalogue : T → Ledger) (moment readings : T → ℕ) (feed : A → Feed) (rules : Rules) where
   abbrev answers : Answering S
@@ -32,7 +33,7 @@ module _ {S A T : Type 0} (old new : S) (desk : S → A) (timed : A → T) (cata
   worded = is_worded rules timed catalogue moment readings feed desk
 
   -- from the moment 0 it is answered by words, up to what it comes to
-  pub served_to : (status : ℕ) (left left' written written' : Option (List ℕ)) (first : Wired) → Holds old → seen old ≡ first → HasServed (AnswersItems answers lacks) status left left' written written' old new
+  pub served_to : (status : Status) (left left' written written' : Option (List ℕ)) (first : Wired) → Holds old → seen old ≡ first → HasServed (AnswersItems answers lacks) status left left' written written' old new
       → HasServed (HasWords (wire_after rules) (wire_reply rules)) status left left' written written' first (seen new)
   served_to status left left' written written' first holds same h =
       subst (λ b. HasServed (HasWords (wire_after rules) (wire_reply rules)) status left left' written written' b (seen new)) same (
@@ -43,6 +44,6 @@ module _ {S A T : Type 0} (old new : S) (desk : S → A) (timed : A → T) (cata
       )
 
   -- from the moment 0 it is answered by words
-  pub served : (status : ℕ) (left left' written written' : Option (List ℕ)) (first : Wired) → Holds old → seen old ≡ first → HasServed (AnswersItems answers lacks) status left left' written written' old new
+  pub served : (status : Status) (left left' written written' : Option (List ℕ)) (first : Wired) → Holds old → seen old ≡ first → HasServed (AnswersItems answers lacks) status left left' written written' old new
       → (end : Wired) × HasServed (HasWords (wire_after rules) (wire_reply rules)) status left left' written written' first end
   served status left left' written written' first holds same h = (seen new, served_to status left left' written written' first holds same h)

@@ -1,3 +1,4 @@
 pub mod Sessions
 pub mod Wires
 pub mod Mirrors
+pub mod Ends

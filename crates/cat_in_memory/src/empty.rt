@@ -1,19 +1,10 @@
 //! A session, a connection and a sample over an empty catalogue.
 
-ghost use Rattle.std.specs.Prelude.{◌≡◌, ◌<◌, ◌≤◌, ◌^◌, ◌⊎◌};
-ghost use Rattle.cat_api.specs.Wire.{Wired, wire_after, wire_reply};
+ghost use Rattle.std.specs.Prelude.{◌≡◌, ◌<◌, ◌^◌};
 ghost use Rattle.cat_feed.specs.Feed.{begun};
-ghost use Rattle.cat_in_memory.specs.Wires.{wire_start};
-ghost use Rattle.cat_io.specs.Causes.{Rose};
-ghost use Rattle.cat_layers.specs.Layered.{layered};
+ghost use Rattle.cat_in_memory.specs.Ends.{EndsAsConnection, EndsAsSample, EndsAsSession};
 ghost use Rattle.cat_model.specs.Step.{start};
-ghost use Rattle.cat_model.specs.declared.types.OrphanRule.TheVariants.{Keep};
-ghost use Rattle.cat_sample.specs.Summary.{sample_line};
-ghost use Rattle.cat_session_model.specs.Program.{program_settings, session_start};
-ghost use Rattle.cat_session_model.specs.Session.{session_after, session_reply};
-ghost use Rattle.cat_session_model.specs.declared.state.SessionState.{SessionState};
-ghost use Rattle.cat_connection.specs.Status.{HasRun, HasServed, HasTold};
-ghost use Rattle.cat_connection.specs.Worded.{HasWords};
+ghost use Rattle.cat_session_model.specs.Program.{program_settings};
 
 use cat_api::service::Service;
 use cat_connection::{Status, answer_lines, answer_messages, tell};
@@ -49,14 +40,7 @@ pub fn run_session<S: Source, O: Sink>(
     source: &mut S,
     sink: &mut O,
 ) -> Status
-    ensures ran { (end : SessionState) × HasRun (session_after layered (program_settings orphans)) (session_reply layered (program_settings orphans)) result.0
-        (S.left source.old) (S.left source.new) (O.written sink.old) (O.written sink.new) session_start end }
-    ensures read_fault { result.0 ≡ 3 → Rose (S.faults source.old) (S.faults source.new) }
-    ensures write_fault { result.0 ≡ 4 → Rose (O.faults sink.old) (O.faults sink.new) }
-    ensures memory { result.0 ≡ 9 → (source.new ≡ source.old) × (sink.new ≡ sink.old) }
-    ensures read_later { S.faults source.old ≤ S.faults source.new }
-    ensures write_later { O.faults sink.old ≤ O.faults sink.new }
-    ensures ended { (result.0 ≡ 0) ⊎ ((result.0 ≡ 3) ⊎ ((result.0 ≡ 4) ⊎ ((result.0 ≡ 9) ⊎ (result.0 ≡ 10)))) }
+    ensures { EndsAsSession S.left S.faults O.written O.faults orphans result source.old source.new sink.old sink.new }
 {
     let mut session = Session::new(alloc, Layered, Layered, orphans);
     answer_lines(alloc, &mut session, source, sink)
@@ -70,14 +54,7 @@ pub fn run_connection<S: Source, O: Sink>(
     source: &mut S,
     sink: &mut O,
 ) -> Status
-    ensures served { (end : Wired) × HasServed (HasWords (wire_after layered) (wire_reply layered)) result.0
-        (S.left source.old) (S.left source.new) (O.written sink.old) (O.written sink.new) (wire_start orphans) end }
-    ensures read_fault { result.0 ≡ 3 → Rose (S.faults source.old) (S.faults source.new) }
-    ensures write_fault { result.0 ≡ 4 → Rose (O.faults sink.old) (O.faults sink.new) }
-    ensures memory { result.0 ≡ 9 → (source.new ≡ source.old) × (sink.new ≡ sink.old) }
-    ensures read_later { S.faults source.old ≤ S.faults source.new }
-    ensures write_later { O.faults sink.old ≤ O.faults sink.new }
-    ensures ended { (result.0 ≡ 0) ⊎ ((result.0 ≡ 3) ⊎ ((result.0 ≡ 4) ⊎ ((result.0 ≡ 9) ⊎ (result.0 ≡ 10)))) }
+    ensures { EndsAsConnection S.left S.faults O.written O.faults orphans result source.old source.new sink.old sink.new }
 {
     let mut service = empty_service(alloc, orphans);
     answer_messages(alloc, &mut service, source, sink)
@@ -86,14 +63,10 @@ pub fn run_connection<S: Source, O: Sink>(
 /// Makes a sample of a seed under the rule that keeps orphans, with so many Components, and writes its line, where there was memory for it.
 pub fn tell_sample<O: Sink>(alloc: Global, seed: u64, count: u64, sink: &mut O) -> Status
     requires { seed < 2 ^ 31 }
-    ensures told { HasTold (sample_line layered (program_settings Keep) seed count) result.0 (O.written sink.old) (O.written sink.new) (O.faults sink.old) (O.faults sink.new) }
-    ensures memory { result.0 ≡ 9 → sink.new ≡ sink.old }
-    ensures write_fault { result.0 ≡ 4 → Rose (O.faults sink.old) (O.faults sink.new) }
-    ensures later { O.faults sink.old ≤ O.faults sink.new }
-    ensures ended { (result.0 ≡ 0) ⊎ ((result.0 ≡ 4) ⊎ (result.0 ≡ 9)) }
+    ensures { EndsAsSample O.written O.faults seed count result sink.old sink.new }
 {
     match sample(alloc, Layered, settings(OrphanRule::Keep), seed, count) {
         Ok(line) => tell(line.as_slice(), sink),
-        Err(_) => Status(9),
+        Err(_) => Status::NoMemory,
     }
 }

@@ -1,8 +1,11 @@
 -- What is told of a store that can't be opened.
-use Rattle.std.specs.Prelude.{ℕ, List, [], ◌∷◌, ◌++◌, Option, IfSome, ◌⊎◌, codes}
+use Rattle.std.specs.Prelude.{◌≡◌, ℕ, List, [], ◌∷◌, ◌++◌, Option, IfSome, ◌⊎◌, codes}
 use Rattle.std.specs.Io.KnownBytes.{Appends}
 use Rattle.cat_io.specs.Causes.{Rose}
 use Rattle.cat_io.specs.Sink.{AppendsFront}
+use Rattle.cat_connection.specs.declared.command.Status.{Status}
+use Rattle.cat_connection.specs.declared.command.Status.TheVariants.{StoreFault, BadRow, NoMemory}
+use Rattle.cat_keeper.specs.Answers.{Stays}
 use Rattle.cat_keeper.specs.Store.{Rows}
 use Rattle.cat_keeper.specs.Tables.{table_name}
 use Rattle.cat_keeper.specs.declared.table.Table.{Table}
@@ -35,3 +38,11 @@ IsRefused told written written' faults faults' =
 -- limit, in either version.
 abbrev pub IsUnopenable : Option Rows → Type 0
 IsUnopenable told = IfSome told (λ rows. AreOfNone layered (program_settings Keep).input_limit rows)
+
+-- A store wasn't opened, and the status has its cause: the keeper counted a fault; or the rows that it told are those of no state that opens, and a line names one;
+-- or memory was wanted. But for that line nothing was written, and what the keeper tells of the place is as before.
+pub record IsShut {O K : Type 0} (written : O → Option (List ℕ)) (write_faults : O → ℕ) (tables : K → Option Rows) (keeper_faults : K → ℕ) (status : Status) (sink sink' : O) (keeper keeper' : K) : Type 0 where
+  pub same : Stays (tables keeper) (tables keeper')
+  pub cause : ((status ≡ StoreFault) × (sink' ≡ sink) × Rose (keeper_faults keeper) (keeper_faults keeper'))
+      ⊎ (((status ≡ BadRow) × IsUnopenable (tables keeper) × IsRefused (tables keeper) (written sink) (written sink') (write_faults sink) (write_faults sink'))
+      ⊎ ((status ≡ NoMemory) × (sink' ≡ sink)))

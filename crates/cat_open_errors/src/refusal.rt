@@ -1,6 +1,7 @@
 //! What is told of a store that can't be opened: a status, and the line that names a row.
 
-ghost use Rattle.std.specs.Prelude.{◌≡◌, ◌≢◌, ◌≤◌, ◌⊎◌, IfOk, IfSome, Option};
+ghost use Rattle.std.specs.Prelude.{◌≡◌, ◌≢◌, ◌≤◌, IfOk, IfSome, List, [], ◌∷◌, Option};
+ghost use Rattle.cat_connection.specs.Status.{IsOneOf};
 ghost use Rattle.cat_keeper.specs.Store.{Rows};
 ghost use Rattle.cat_layers.specs.Layered.{layered};
 ghost use Rattle.cat_model.specs.declared.types.OrphanRule.TheVariants.{Keep};
@@ -26,36 +27,36 @@ fn refusal(alloc: Global, table: Table, key: &str) -> Result<Vec<u8>, AllocError
     Ok(line.into_bytes())
 }
 
-// Says which row of a store is refused. The status is 6, whether the sink failed or not, or 9 where memory lacked for the line.
+// Says which row of a store is refused. The status is `BadRow`, whether the sink failed or not, or `NoMemory` where memory lacked for the line.
 fn refuse<O: Sink>(alloc: Global, table: Table, key: &str, sink: &mut O) -> Status
-    ensures refused { result.0 ≡ 6 → IsLineOf table key.now (O.written sink.old) (O.written sink.new) (O.faults sink.old) (O.faults sink.new) }
-    ensures memory { result.0 ≡ 9 → sink.new ≡ sink.old }
+    ensures refused { result ≡ Status.BadRow → IsLineOf table key.now (O.written sink.old) (O.written sink.new) (O.faults sink.old) (O.faults sink.new) }
+    ensures memory { result ≡ Status.NoMemory → sink.new ≡ sink.old }
     ensures later { O.faults sink.old ≤ O.faults sink.new }
-    ensures ended { (result.0 ≡ 6) ⊎ (result.0 ≡ 9) }
+    ensures ended { IsOneOf result (Status.BadRow ∷ Status.NoMemory ∷ []) }
 {
     match refusal(alloc, table, key) {
         Ok(line) => {
             let _ = write_all(sink, line.as_slice());
-            Status(6)
+            Status::BadRow
         }
-        Err(_) => Status(9),
+        Err(_) => Status::NoMemory,
     }
 }
 
-/// Why a store can't be opened, as a status, with the line that names a row: 5 where the keeper failed, 6 where a row is named, and 9 for want of
-/// memory. Nothing else is written.
+/// Why a store can't be opened, as a status, with the line that names a row: `StoreFault` where the keeper failed, `BadRow` where a row is named, and
+/// `NoMemory` for want of memory. Nothing else is written.
 pub fn unopened<O: Sink>(alloc: Global, fault: &OpenFault, sink: &mut O) -> Status
-    ensures refused { result.0 ≡ 6 → (told : Option Rows) → IfSome told (λ rows. IsNamed (program_settings Keep).input_limit rows fault.now)
+    ensures refused { result ≡ Status.BadRow → (told : Option Rows) → IfSome told (λ rows. IsNamed (program_settings Keep).input_limit rows fault.now)
         → IsRefused told (O.written sink.old) (O.written sink.new) (O.faults sink.old) (O.faults sink.new) }
-    ensures unopenable { result.0 ≡ 6 → (told : Option Rows) → IfSome told (λ rows. MayRefuse layered (program_settings Keep).input_limit rows fault.now) → IsUnopenable told }
-    ensures keeper { result.0 ≡ 5 → fault.now ≡ OpenFault.Keeper }
-    ensures unwritten { result.0 ≢ 6 → sink.new ≡ sink.old }
+    ensures unopenable { result ≡ Status.BadRow → (told : Option Rows) → IfSome told (λ rows. MayRefuse layered (program_settings Keep).input_limit rows fault.now) → IsUnopenable told }
+    ensures keeper { result ≡ Status.StoreFault → fault.now ≡ OpenFault.Keeper }
+    ensures unwritten { result ≢ Status.BadRow → sink.new ≡ sink.old }
     ensures later { O.faults sink.old ≤ O.faults sink.new }
-    ensures ended { (result.0 ≡ 5) ⊎ ((result.0 ≡ 6) ⊎ (result.0 ≡ 9)) }
+    ensures ended { IsOneOf result (Status.StoreFault ∷ Status.BadRow ∷ Status.NoMemory ∷ []) }
 {
     match fault {
-        OpenFault::Keeper => Status(5),
+        OpenFault::Keeper => Status::StoreFault,
         OpenFault::Row(table, key) => refuse(alloc, *table, key.as_str(), sink),
-        OpenFault::NoMemory => Status(9),
+        OpenFault::NoMemory => Status::NoMemory,
     }
 }

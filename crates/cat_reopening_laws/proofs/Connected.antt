@@ -73,6 +73,23 @@ module _ (rule : OrphanRule) where
   unfolding wire_after
   message_serves k w m h = requested_serves w m (request_of m) k refl h
 
+  -- ---- a connection that nothing keeps
+
+  wire_item_serves : (k : Wired) (w : Word) (item : Item) → Serves k → Serves (item_after (wire_after layered) k w item)
+  unfolding item_after
+  wire_item_serves k plain (message m) h = message_serves k plain m h
+  wire_item_serves k memory (message m) h = h
+  wire_item_serves k (cut n) (message m) h = message_serves k (cut n) m h
+  wire_item_serves k untold (message m) h = message_serves k untold m h
+  wire_item_serves k unkept (message m) h = message_serves k unkept m h
+  wire_item_serves k (cut_unkept n) (message m) h = message_serves k (cut_unkept n) m h
+  wire_item_serves k w (refusal fault) h = h
+
+  pub wire_items_serve : (k : Wired) (items : List Item) (words : List Word) → Serves k → Serves (after_items (wire_after layered) k items words)
+  wire_items_serve k [] words h = h
+  wire_items_serve k (item ∷ items) [] h = h
+  wire_items_serve k (item ∷ items) (w ∷ words) h = wire_items_serve (item_after (wire_after layered) k w item) items words (wire_item_serves k w item h)
+
   -- ---- a connection that is kept
 
   abbrev KeptServes : KeptWired → Type 0

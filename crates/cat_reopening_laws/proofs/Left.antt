@@ -38,6 +38,7 @@ use Rattle.cat_connection.specs.Connection as connection
 use Rattle.cat_connection.specs.Connection.{WritesReplies, WritesPart}
 use Rattle.cat_connection.specs.declared.message_loop.ConnEnd.{ConnEnd}
 use Rattle.cat_connection.specs.declared.message_loop.ConnEnd.TheVariants as conn
+use Rattle.cat_connection.specs.declared.command.Status.{Status}
 use Rattle.cat_stored_session.specs.Stores.{HasKept, HasKeptWire}
 use Rattle.cat_stored_rows.specs.Stored.{stored, tables, texts_of}
 
@@ -87,7 +88,7 @@ module _ (place : Place) where
       go true = h
       go false = h
 
-  pub session_leaves : (rule : Option OrphanRule) (rows : Rows) (status : ℕ) (left left' written written' : Option (List ℕ)) (after : Place → Option Rows) (faults : ℕ) (m : State)
+  pub session_leaves : (rule : Option OrphanRule) (rows : Rows) (status : Status) (left left' written written' : Option (List ℕ)) (after : Place → Option Rows) (faults : ℕ) (m : State)
       → IsLasting m → AreRowsOf m rows → HasKept place rule (Some rows) status left left' written written' after faults → AreLasting (after place)
   unfolding tables
   session_leaves rule rows status left left' written written' after faults m is are k =
@@ -170,7 +171,7 @@ module _ (place : Place) where
   items_stay k (item ∷ items) [] h = h
   items_stay k (item ∷ items) (w ∷ words) h = items_stay (item_after (kept_wire_after layered) k w item) items words (item_stays k w item h)
 
-  pub connection_leaves : (rule : Option OrphanRule) (rows : Rows) (status : ℕ) (left left' written written' : Option (List ℕ)) (after : Place → Option Rows) (faults : ℕ) (m : State)
+  pub connection_leaves : (rule : Option OrphanRule) (rows : Rows) (status : Status) (left left' written written' : Option (List ℕ)) (after : Place → Option Rows) (faults : ℕ) (m : State)
       → IsLasting m → AreRowsOf m rows → HasKeptWire place rule (Some rows) status left left' written written' after faults → ∥ AreLasting (after place) ∥₁
   unfolding tables
   connection_leaves rule rows status left left' written written' after faults m is are k =

@@ -1,5 +1,6 @@
 -- The states that the program's sessions reach, and those that runs over one store come to.
 use Rattle.std.specs.Prelude.{ℕ, List, [], Option}
+use Rattle.cat_api.specs.Wire.{wire_after}
 use Rattle.cat_feed.specs.Feed.{begun}
 use Rattle.cat_stored_session.specs.Kept.{kept_after}
 use Rattle.cat_stored_session.specs.declared.state.KeptState.{KeptState}
@@ -39,6 +40,10 @@ wired_over rule place m = record { wired = record { catalogue = record { setting
 -- the state that such a connection comes to by the messages, each with its word, so also where the changes of some weren't kept
 abbrev pub wired_to : OrphanRule → Place → State → List Item → List wire.Word → State
 wired_to rule place m items words = (after_items (kept_wire_after layered) (wired_over rule place m) items words).wired.catalogue.state
+
+-- the state that a connection over a catalogue that nothing keeps comes to by the messages, each with its word, under a rule for orphans
+abbrev pub connected : OrphanRule → List Item → List wire.Word → State
+connected rule items words = (after_items (wire_after layered) (record { catalogue = record { settings = program_settings rule; state = start }; feed = begun 0 }) items words).catalogue.state
 
 -- A state is lasting if runs over one store come to it, one after the other: it is that of the empty catalogue, or what a session or a connection over
 -- a lasting state comes to, or what a lasting state is opened again as.

@@ -5,13 +5,18 @@ ghost use Rattle.cat_keeper.specs.declared.keeper.Place.{Place};
 ghost use Rattle.cat_layers.specs.Layered.{layered};
 ghost use Rattle.cat_io.specs.Runs.{after_lines};
 ghost use Rattle.cat_io.specs.Word.{Word};
+ghost use Rattle.cat_model.specs.Fresh.{IsFresh};
+ghost use Rattle.cat_model.specs.Sound.{Quiet};
 ghost use Rattle.cat_model.specs.Step.{reopened};
 ghost use Rattle.cat_model.specs.declared.types.OrphanRule.{OrphanRule};
 ghost use Rattle.cat_model.specs.declared.types.Settings.{Settings};
 ghost use Rattle.cat_model.specs.declared.types.State.{State};
-ghost use Rattle.cat_reopening_laws.specs.Reached.{AreLasting, IsLasting, reached};
+ghost use Rattle.cat_reopening_laws.specs.Reached.{AreLasting, IsLasting, connected, reached};
 ghost use Rattle.cat_row_updates.specs.Right.{AreOfNone, AreRowsOf, MayOpen};
 ghost use Rattle.cat_row_updates.specs.Told.{OpensAs};
+ghost use Rattle.cat_connection.specs.Items.{Item};
+ghost use Rattle.cat_connection.specs.Worded as wire;
+ghost use Rattle.cat_connection.specs.declared.command.Status.{Status};
 ghost use Rattle.cat_stored_session.specs.Stores.{HasKept, HasKeptWire};
 ghost use Rattle.cat_stored_rows.specs.First.{first};
 ghost use Rattle.cat_stored_rows.specs.Stored.{tables, texts_of};
@@ -19,6 +24,7 @@ ghost use Rattle.cat_session_model.specs.Program.{session_start};
 ghost use Rattle.cat_session_model.specs.Session.{session_after};
 
 use cat_form_laws::law::real_forms_are_kept;
+use cat_laws::theorem::quiet_is_fresh;
 use cat_session_model::law::sessions_stay_sound;
 
 /// Every state that a session reaches may open: after any lines from the empty catalogue, and so after every prefix of the lines of an input, wherever
@@ -51,8 +57,17 @@ pub fn lasting_stores_open()
 /// And so it is of the program's runs: what a session or a connection over a store leaves, where the store had the rows of a lasting state, are the rows
 /// of a lasting state, if the keeper tells any.
 pub fn runs_leave_lasting_stores()
-    ensures session { (place : Place) (rule : Option OrphanRule) (rows : Rows) (status : ℕ) (left left' written written' : Option (List ℕ)) (after : Place → Option Rows) (faults : ℕ) (m : State)
+    ensures session { (place : Place) (rule : Option OrphanRule) (rows : Rows) (status : Status) (left left' written written' : Option (List ℕ)) (after : Place → Option Rows) (faults : ℕ) (m : State)
         → IsLasting m → AreRowsOf m rows → HasKept place rule (Some rows) status left left' written written' after faults → AreLasting (after place) }
-    ensures connection { (place : Place) (rule : Option OrphanRule) (rows : Rows) (status : ℕ) (left left' written written' : Option (List ℕ)) (after : Place → Option Rows) (faults : ℕ) (m : State)
+    ensures connection { (place : Place) (rule : Option OrphanRule) (rows : Rows) (status : Status) (left left' written written' : Option (List ℕ)) (after : Place → Option Rows) (faults : ℕ) (m : State)
         → IsLasting m → AreRowsOf m rows → HasKeptWire place rule (Some rows) status left left' written written' after faults → ∥ AreLasting (after place) ∥₁ }
 {}
+
+/// Wherever the catalogue is quiet in a state that such runs come to, and in one that a connection comes to over a catalogue that nothing keeps, its documents
+/// are those computed afresh from its present inputs.
+pub fn lasting_states_are_fresh()
+    ensures lasting { (m : State) (now : ℕ) → IsLasting m → Quiet m now → IsFresh layered m }
+    ensures connections { (rule : OrphanRule) (items : List Item) (words : List wire.Word) (now : ℕ) → Quiet (connected rule items words) now → IsFresh layered (connected rule items words) }
+{
+    quiet_is_fresh();
+}

@@ -1,21 +1,20 @@
 //! The server, over doors and a clock.
 
-ghost use Rattle.std.specs.Prelude.{◌≡◌, ◌≢◌, true, None, ◌<◌, ◌≤◌, ◌⊎◌, map, string_bytes};
-ghost use Rattle.cat_listener.specs.Doors.{HaveClosed, StayClosed};
+ghost use Rattle.std.specs.Prelude.{◌≡◌, ◌<◌, ◌≤◌, List, [], ◌∷◌};
+ghost use Rattle.cat_connection.specs.Status.{IsOneOf};
 ghost use Rattle.cat_feed.specs.Feed.{begun};
 ghost use Rattle.cat_io.specs.Causes.{Rose};
-ghost use Rattle.cat_keeper.specs.Answers.{Are, Stays};
+ghost use Rattle.cat_keeper.specs.Answers.{Are};
 ghost use Rattle.cat_layers.specs.Layered.{layered};
+ghost use Rattle.cat_listener.specs.Doors.{HaveClosed};
 ghost use Rattle.cat_model.specs.Sound.{Sound};
 ghost use Rattle.cat_model.specs.Step.{start};
+ghost use Rattle.cat_server.specs.Ended.{EndsAsServing, HasListened};
+ghost use Rattle.cat_session_model.specs.Program.{program_settings};
 ghost use Rattle.cat_store.specs.Opened.{IsOpening};
 ghost use Rattle.cat_stored_rows.specs.Stored.{stored, texts_of};
-ghost use Rattle.cat_server.specs.Ended.{faults_left, tables_left};
-ghost use Rattle.cat_command_line.specs.Words.{place_of};
-ghost use Rattle.cat_session_model.specs.Program.{program_settings};
-ghost use Rattle.cat_open_errors.specs.Unopened.{IsRefused, IsUnopenable};
 
-use cat_command_line::{Serving, address_of, place_of};
+use cat_command_line::{ServerOptions, Serving};
 use cat_connection::Status;
 use cat_core::catalogue::Catalogue;
 use cat_desk::fed::Fed;
@@ -86,26 +85,26 @@ fn kept_desk<C: Clock, K: Keeper>(
 fn serve<B: TimedDesk<Layered> + Drop + Send, D: Doors + Send, R: Threads + Wait + Sync>(
     rt: &R,
     alloc: Global,
-    serving: Serving,
+    server: ServerOptions,
     desk: B,
     doors: &mut D,
 ) -> Status
-    requires crew { 0 < serving.connections }
+    requires crew { 0 < server.connections }
     requires sound { Sound layered (B.ledger desk).state }
-    ensures closed { result.0 ≡ 0 → HaveClosed (D.closed doors.new) }
-    ensures doors_fault { result.0 ≡ 7 → Rose (D.faults doors.old) (D.faults doors.new) }
-    ensures memory { result.0 ≡ 9 → doors.new ≡ doors.old }
+    ensures closed { result ≡ Status.Whole → HaveClosed (D.closed doors.new) }
+    ensures doors_fault { result ≡ Status.DoorsFault → Rose (D.faults doors.old) (D.faults doors.new) }
+    ensures memory { result ≡ Status.NoMemory → doors.new ≡ doors.old }
     ensures later { D.faults doors.old ≤ D.faults doors.new }
-    ensures ended { (result.0 ≡ 0) ⊎ ((result.0 ≡ 7) ⊎ (result.0 ≡ 9)) }
+    ensures ended { IsOneOf result (Status.Whole ∷ Status.DoorsFault ∷ Status.NoMemory ∷ []) }
 {
     let crew = Crew {
-        connections: serving.connections,
-        workers: serving.workers,
+        connections: server.connections,
+        workers: server.workers,
     };
     match host(rt, alloc, &Layered, crew, desk, doors) {
-        Ok(DoorsEnded::Closed) => Status(0),
-        Ok(DoorsEnded::Failed) => Status(7),
-        Err(_) => Status(9),
+        Ok(DoorsEnded::Closed) => Status::Whole,
+        Ok(DoorsEnded::Failed) => Status::DoorsFault,
+        Err(_) => Status::NoMemory,
     }
 }
 
@@ -114,25 +113,18 @@ fn run_serve<C: Clock + Drop + Send, D: Doors + Send, R: Threads + Wait + Sync>(
     rt: &R,
     alloc: Global,
     address: &str,
-    serving: Serving,
+    orphans: OrphanRule,
+    server: ServerOptions,
     clock: C,
     doors: &mut D,
 ) -> Status
-    requires crew { 0 < serving.connections }
-    ensures closed { result.0 ≡ 0 → HaveClosed (D.closed doors.new) }
-    ensures doors_fault { result.0 ≡ 7 → Rose (D.faults doors.old) (D.faults doors.new) }
-    // For want of memory no connection was asked for, so that doors which had closed still have.
-    ensures memory { result.0 ≡ 9 → StayClosed (D.closed doors.old) (D.closed doors.new) }
-    ensures later { D.faults doors.old ≤ D.faults doors.new }
-    ensures ended { (result.0 ≡ 0) ⊎ ((result.0 ≡ 7) ⊎ (result.0 ≡ 9)) }
+    requires crew { 0 < server.connections }
+    ensures { HasListened D.closed D.faults result doors.old doors.new }
 {
     sound_is_kept();
     match doors.listen(address) {
-        Listened::Ready => {
-            let orphans = serving.orphans.unwrap_or(OrphanRule::Keep);
-            serve(rt, alloc, serving, empty_desk(alloc, orphans, clock), doors)
-        }
-        Listened::Failed => Status(7),
+        Listened::Ready => serve(rt, alloc, server, empty_desk(alloc, orphans, clock), doors),
+        Listened::Failed => Status::DoorsFault,
     }
 }
 
@@ -146,79 +138,27 @@ fn serve_opened<
     rt: &R,
     alloc: Global,
     address: &str,
-    serving: Serving,
+    server: ServerOptions,
     opened: Opened<K>,
     clock: C,
     doors: &mut D,
 ) -> Status
-    requires crew { 0 < serving.connections }
+    requires crew { 0 < server.connections }
     requires opening { IsOpening layered opened.links opened.state.value }
     requires rows { opened.store.rows ≡ stored opened.store.orphans opened.state.value }
     requires told { Are (K.tables opened.store.place opened.store.keeper) (texts_of opened.store.rows) }
-    ensures closed { result.0 ≡ 0 → HaveClosed (D.closed doors.new) }
-    ensures doors_fault { result.0 ≡ 7 → Rose (D.faults doors.old) (D.faults doors.new) }
-    ensures memory { result.0 ≡ 9 → StayClosed (D.closed doors.old) (D.closed doors.new) }
-    ensures later { D.faults doors.old ≤ D.faults doors.new }
-    ensures ended { (result.0 ≡ 0) ⊎ ((result.0 ≡ 7) ⊎ (result.0 ≡ 9)) }
+    ensures { HasListened D.closed D.faults result doors.old doors.new }
 {
     match doors.listen(address) {
-        Listened::Ready => serve(rt, alloc, serving, kept_desk(alloc, opened, clock), doors),
-        Listened::Failed => Status(7),
+        Listened::Ready => serve(rt, alloc, server, kept_desk(alloc, opened, clock), doors),
+        Listened::Failed => Status::DoorsFault,
     }
 }
 
-// The same over the catalogue that the keeper has at the place that the words name, under the rule for orphans among them, or else under the
-// stored one.
-fn run_stored_serve<
-    O: Sink,
-    C: Clock + Drop + Send,
-    D: Doors + Send,
-    K: Keeper + Drop + Send,
-    R: Threads + Wait + Sync,
->(
-    rt: &R,
-    alloc: Global,
-    words: &[String],
-    serving: Serving,
-    sink: &mut O,
-    clock: C,
-    doors: &mut D,
-    keeper: K,
-) -> Ended<K>
-    requires crew { 0 < serving.connections }
-    ensures closed { result.status.0 ≡ 0 → HaveClosed (D.closed doors.new) }
-    ensures doors_fault { result.status.0 ≡ 7 → Rose (D.faults doors.old) (D.faults doors.new) }
-    ensures later { D.faults doors.old ≤ D.faults doors.new }
-    ensures same { (result.status.0 ≡ 5) ⊎ (result.status.0 ≡ 6) → Stays (K.tables (place_of (map string_bytes words.now)) keeper) (tables_left (K.tables (place_of (map string_bytes words.now))) result.keeper) }
-    ensures keeper_fault { result.status.0 ≡ 5 → Rose (K.faults keeper) (faults_left K.faults result.keeper) }
-    ensures refused { result.status.0 ≡ 6 → IsRefused (K.tables (place_of (map string_bytes words.now)) keeper) (O.written sink.old) (O.written sink.new) (O.faults sink.old) (O.faults sink.new) }
-    ensures unopenable { result.status.0 ≡ 6 → IsUnopenable (K.tables (place_of (map string_bytes words.now)) keeper) }
-    ensures unwritten { result.status.0 ≢ 6 → sink.new ≡ sink.old }
-    ensures write_later { O.faults sink.old ≤ O.faults sink.new }
-    ensures ended { (result.status.0 ≡ 0) ⊎ ((result.status.0 ≡ 5) ⊎ ((result.status.0 ≡ 6) ⊎ ((result.status.0 ≡ 7) ⊎ (result.status.0 ≡ 9)))) }
-{
-    let Ok(place) = place_of(alloc, words) else {
-        return Ended {
-            status: Status(9),
-            keeper: Some(keeper),
-        };
-    };
-    match open(alloc, &Layered, keeper, place, serving.orphans, INPUT_LIMIT) {
-        Ok(opened) => Ended {
-            status: serve_opened(rt, alloc, address_of(words), serving, opened, clock, doors),
-            keeper: None,
-        },
-        Err((fault, keeper)) => Ended {
-            status: unopened(alloc, &fault, sink),
-            keeper: Some(keeper),
-        },
-    }
-}
-
-/// Listens at the address that the words name, and serves the connections that come over an empty catalogue, or over the one that the keeper has at the
-/// place that they name, with workers beside them, until the doors let in no more. The status is 0 where the doors have closed, 7 where they failed, 9 where
-/// memory lacked before the first connection, 5 where the keeper failed as the store was opened, and 6 where a row of the store has no reading or breaks a
-/// rule, which a line names; no address was listened at then.
+/// Listens at an address, and serves the connections that come over an empty catalogue, or over the one that the keeper has at a place, with workers beside
+/// them, until the doors let in no more. The status is `Whole` where the doors have closed, `DoorsFault` where they failed, `NoMemory` where memory lacked before
+/// the first connection, `StoreFault` where the keeper failed as the store was opened, and `BadRow` where a row of the store has no reading or breaks a rule,
+/// which a line names; no address was listened at then.
 pub fn run_server<
     O: Sink,
     C: Clock + Drop + Send,
@@ -228,33 +168,38 @@ pub fn run_server<
 >(
     rt: &R,
     alloc: Global,
-    words: &[String],
     serving: Serving,
     sink: &mut O,
     clock: C,
     doors: &mut D,
     keeper: K,
 ) -> Ended<K>
-    requires crew { 0 < serving.connections }
-    ensures closed { result.status.0 ≡ 0 → HaveClosed (D.closed doors.new) }
-    ensures doors_fault { result.status.0 ≡ 7 → Rose (D.faults doors.old) (D.faults doors.new) }
-    ensures doors_later { D.faults doors.old ≤ D.faults doors.new }
-    ensures same { (result.status.0 ≡ 5) ⊎ (result.status.0 ≡ 6) → Stays (K.tables (place_of (map string_bytes words.now)) keeper) (tables_left (K.tables (place_of (map string_bytes words.now))) result.keeper) }
-    ensures keeper_fault { result.status.0 ≡ 5 → Rose (K.faults keeper) (faults_left K.faults result.keeper) }
-    ensures refused { result.status.0 ≡ 6 → IsRefused (K.tables (place_of (map string_bytes words.now)) keeper) (O.written sink.old) (O.written sink.new) (O.faults sink.old) (O.faults sink.new) }
-    ensures unopenable { result.status.0 ≡ 6 → IsUnopenable (K.tables (place_of (map string_bytes words.now)) keeper) }
-    ensures over_store { (result.status.0 ≡ 5) ⊎ (result.status.0 ≡ 6) → serving.kept ≡ true }
-    ensures returned { result.keeper ≡ None → serving.kept ≡ true }
-    ensures unwritten { result.status.0 ≢ 6 → sink.new ≡ sink.old }
-    ensures write_later { O.faults sink.old ≤ O.faults sink.new }
-    ensures ended { (result.status.0 ≡ 0) ⊎ ((result.status.0 ≡ 5) ⊎ ((result.status.0 ≡ 6) ⊎ ((result.status.0 ≡ 7) ⊎ (result.status.0 ≡ 9)))) }
+    requires crew { 0 < serving.server.connections }
+    ensures { EndsAsServing O.written O.faults D.closed D.faults K.tables K.faults serving.catalogue.place result.status sink.old sink.new doors.old doors.new keeper result.keeper }
 {
-    if serving.kept {
-        run_stored_serve(rt, alloc, words, serving, sink, clock, doors, keeper)
-    } else {
-        Ended {
-            status: run_serve(rt, alloc, address_of(words), serving, clock, doors),
-            keeper: Some(keeper),
+    let Serving {
+        address,
+        catalogue,
+        server,
+    } = serving;
+    let address = address.as_str();
+    match catalogue.place {
+        None => {
+            let orphans = catalogue.orphans.unwrap_or(OrphanRule::Keep);
+            Ended {
+                status: run_serve(rt, alloc, address, orphans, server, clock, doors),
+                keeper: Some(keeper),
+            }
         }
+        Some(place) => match open(alloc, &Layered, keeper, place, catalogue.orphans, INPUT_LIMIT) {
+            Ok(opened) => Ended {
+                status: serve_opened(rt, alloc, address, server, opened, clock, doors),
+                keeper: None,
+            },
+            Err((fault, keeper)) => Ended {
+                status: unopened(alloc, &fault, sink),
+                keeper: Some(keeper),
+            },
+        },
     }
 }

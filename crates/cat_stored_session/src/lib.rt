@@ -10,8 +10,7 @@
 //! a connection by a desk whose catalogue is kept, at the moment 0; a message whose change wasn't kept is answered 503 and counted.
 //!
 //! `run_stored` opens the store that a keeper has at a place, answers the lines of a source over the catalogue that it keeps, and hands the keeper
-//! back; `run_stored_connection` does so for the messages of one connection, and `run_stored_by` and `run_stored_connection_by` at the place that the
-//! words of a command line name. A store that can't be opened has its status, 5 or 6, its tables as before, and, where a row is at fault, a line that names it. `sittings` opens a store for the first input, again for the second, and so on, with
+//! back; `run_stored_connection` does so for the messages of one connection. A store that can't be opened has its status, its tables as before, and, where a row is at fault, a line that names it. `sittings` opens a store for the first input, again for the second, and so on, with
 //! one keeper, up to the first session that doesn't end whole; the program has one session for each call of it, and doesn't use it.
 //!
 //! The promise: the replies are those of the abstract catalogue from what the rows say, sound, in which a line or a message may stand whose change
@@ -20,7 +19,7 @@
 //! sessions.
 //!
 //! It stands on cat_session for lines, on cat_api and cat_connection for messages and statuses, on cat_store for the opening, on cat_stored_desk for what it
-//! means that a store follows a state, on cat_open_errors for what is told of one that can't be opened, on cat_command_line for the words, and on cat_layers for
+//! means that a store follows a state, on cat_open_errors for what is told of one that can't be opened, and on cat_layers for
 //! the real layers.
 #![tactic(auto)]
 
@@ -28,13 +27,11 @@ mod about;
 mod connection;
 mod kept;
 pub mod law;
-mod named;
 mod sessions;
 pub mod state;
 mod stored;
 
 pub use connection::{KeptService, kept_connection};
 pub use kept::KeptSession;
-pub use named::{run_stored_by, run_stored_connection_by};
 pub use sessions::sittings;
 pub use stored::{Ran, run_stored, run_stored_connection};

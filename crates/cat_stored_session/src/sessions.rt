@@ -51,7 +51,7 @@ fn over<O: Sink, K: Keeper>(
     sink: &mut O,
 ) -> Ran<K>
     ensures { HasSat place orphans source.left
-        (record { rows = K.tables place keeper; faults = K.faults keeper; written = O.written sink.old; sink_faults = O.faults sink.old }) result.status.0
+        (record { rows = K.tables place keeper; faults = K.faults keeper; written = O.written sink.old; sink_faults = O.faults sink.old }) result.status
         (record { rows = K.tables place result.keeper; faults = K.faults result.keeper; written = O.written sink.new; sink_faults = O.faults sink.new }) }
 {
     let mut source = source;
@@ -68,20 +68,20 @@ fn sitting<O: Sink, K: Keeper>(
     sink: &mut O,
 ) -> Ran<K>
     ensures { HasSat place.now orphans input.now
-        (record { rows = K.tables place.now keeper; faults = K.faults keeper; written = O.written sink.old; sink_faults = O.faults sink.old }) result.status.0
+        (record { rows = K.tables place.now keeper; faults = K.faults keeper; written = O.written sink.old; sink_faults = O.faults sink.old }) result.status
         (record { rows = K.tables place.now result.keeper; faults = K.faults result.keeper; written = O.written sink.new; sink_faults = O.faults sink.new }) }
 {
     match given(alloc, place, input) {
         Ok((place, source)) => over(alloc, orphans, place, keeper, source, sink),
         Err(_) => Ran {
-            status: Status(9),
+            status: Status::NoMemory,
             keeper,
         },
     }
 }
 
 /// Answers the lines of the inputs over the store that the keeper has at a place, under this rule for orphans or else under the stored
-/// one: a session for each input, over what the one before left, with one keeper and one sink. The status is 0 where all were answered, and
+/// one: a session for each input, over what the one before left, with one keeper and one sink. The status is `Whole` where all were answered, and
 /// otherwise that of the first session that didn't end whole, as `run_stored` has it; the inputs behind it aren't looked at.
 pub fn sittings<O: Sink, K: Keeper>(
     alloc: Global,
@@ -92,20 +92,20 @@ pub fn sittings<O: Sink, K: Keeper>(
     sink: &mut O,
 ) -> Ran<K>
     ensures { HaveSat place.now orphans (map (λ b. b.now) inputs.now)
-        (record { rows = K.tables place.now keeper; faults = K.faults keeper; written = O.written sink.old; sink_faults = O.faults sink.old }) result.status.0
+        (record { rows = K.tables place.now keeper; faults = K.faults keeper; written = O.written sink.old; sink_faults = O.faults sink.old }) result.status
         (record { rows = K.tables place.now result.keeper; faults = K.faults result.keeper; written = O.written sink.new; sink_faults = O.faults sink.new }) }
 {
     match inputs.split_first() {
         None => Ran {
-            status: Status(0),
+            status: Status::Whole,
             keeper,
         },
         Some((input, others)) => {
             let ran = sitting(alloc, orphans, place, keeper, input, sink);
-            if ran.status.0 != 0 {
-                return ran;
+            match ran.status {
+                Status::Whole => sittings(alloc, orphans, place, ran.keeper, others, sink),
+                _ => ran,
             }
-            sittings(alloc, orphans, place, ran.keeper, others, sink)
         }
     }
 }

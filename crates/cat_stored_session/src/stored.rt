@@ -1,15 +1,13 @@
 //! A session, and a connection, over a store.
 
-ghost use Rattle.std.specs.Prelude.{◌≡◌, ◌≤◌, ◌⊎◌};
+ghost use Rattle.std.specs.Prelude.{◌≡◌};
 ghost use Rattle.cat_feed.specs.Feed.{begun};
-ghost use Rattle.cat_io.specs.Causes.{Rose};
-ghost use Rattle.cat_keeper.specs.Answers.{Are, Stays};
+ghost use Rattle.cat_keeper.specs.Answers.{Are};
 ghost use Rattle.cat_layers.specs.Layered.{layered};
 ghost use Rattle.cat_store.specs.Opened.{IsOpening};
 ghost use Rattle.cat_stored_rows.specs.Stored.{stored, texts_of};
 ghost use Rattle.cat_session_model.specs.Program.{program_settings};
-ghost use Rattle.cat_stored_session.specs.Stores.{HasKept, HasKeptWire, session_over};
-ghost use Rattle.cat_open_errors.specs.Unopened.{IsRefused, IsUnopenable};
+ghost use Rattle.cat_stored_session.specs.Stores.{EndsAsStoredConnection, EndsAsStoredSession, session_over};
 
 use crate::{KeptService, KeptSession, kept_connection};
 use cat_api::service::Service;
@@ -75,7 +73,7 @@ fn service_of<'a, K: Keeper>(alloc: Global, opened: Opened<K>) -> KeptService<'a
 }
 
 /// Answers the lines of the source over the catalogue that the keeper has at a place, under this rule for orphans, or
-/// else under the stored one. The status is 5 where the keeper failed as the store was opened, and 6 where a row of the store has no reading
+/// else under the stored one. The status is `StoreFault` where the keeper failed as the store was opened, and `BadRow` where a row of the store has no reading
 /// or breaks a rule; the line `refused store TABLE KEY` names the first such row. It comes only where the rows are those of no state that opens.
 pub fn run_stored<S: Source, O: Sink, K: Keeper>(
     alloc: Global,
@@ -85,20 +83,7 @@ pub fn run_stored<S: Source, O: Sink, K: Keeper>(
     source: &mut S,
     sink: &mut O,
 ) -> Ran<K>
-    ensures kept { (result.status.0 ≡ 5) ⊎ ((result.status.0 ≡ 6) ⊎ (((result.status.0 ≡ 9) × Stays (K.tables place keeper) (K.tables place result.keeper))
-        ⊎ HasKept place orphans (K.tables place keeper) result.status.0 (S.left source.old) (S.left source.new)
-        (O.written sink.old) (O.written sink.new) (λ place. K.tables place result.keeper) (K.faults result.keeper))) }
-    ensures unread { (result.status.0 ≡ 5) ⊎ (result.status.0 ≡ 6) → source.new ≡ source.old }
-    ensures same { (result.status.0 ≡ 5) ⊎ (result.status.0 ≡ 6) → Stays (K.tables place keeper) (K.tables place result.keeper) }
-    ensures keeper_fault { result.status.0 ≡ 5 → Rose (K.faults keeper) (K.faults result.keeper) }
-    ensures refused { result.status.0 ≡ 6 → IsRefused (K.tables place keeper) (O.written sink.old) (O.written sink.new) (O.faults sink.old) (O.faults sink.new) }
-    ensures unopenable { result.status.0 ≡ 6 → IsUnopenable (K.tables place keeper) }
-    ensures read_fault { result.status.0 ≡ 3 → Rose (S.faults source.old) (S.faults source.new) }
-    ensures write_fault { result.status.0 ≡ 4 → Rose (O.faults sink.old) (O.faults sink.new) }
-    ensures memory { result.status.0 ≡ 9 → (source.new ≡ source.old) × (sink.new ≡ sink.old) }
-    ensures read_later { S.faults source.old ≤ S.faults source.new }
-    ensures write_later { O.faults sink.old ≤ O.faults sink.new }
-    ensures ended { (result.status.0 ≡ 0) ⊎ ((result.status.0 ≡ 3) ⊎ ((result.status.0 ≡ 4) ⊎ ((result.status.0 ≡ 5) ⊎ ((result.status.0 ≡ 6) ⊎ ((result.status.0 ≡ 9) ⊎ (result.status.0 ≡ 10)))))) }
+    ensures { EndsAsStoredSession S.left S.faults O.written O.faults K.tables K.faults place orphans result.status source.old source.new sink.old sink.new keeper result.keeper }
 {
     match open(alloc, &Layered, keeper, place, orphans, INPUT_LIMIT) {
         Ok(opened) => {
@@ -123,20 +108,7 @@ pub fn run_stored_connection<S: Source, O: Sink, K: Keeper>(
     source: &mut S,
     sink: &mut O,
 ) -> Ran<K>
-    ensures kept { (result.status.0 ≡ 5) ⊎ ((result.status.0 ≡ 6) ⊎ (((result.status.0 ≡ 9) × Stays (K.tables place keeper) (K.tables place result.keeper))
-        ⊎ HasKeptWire place orphans (K.tables place keeper) result.status.0 (S.left source.old) (S.left source.new)
-        (O.written sink.old) (O.written sink.new) (λ place. K.tables place result.keeper) (K.faults result.keeper))) }
-    ensures unread { (result.status.0 ≡ 5) ⊎ (result.status.0 ≡ 6) → source.new ≡ source.old }
-    ensures same { (result.status.0 ≡ 5) ⊎ (result.status.0 ≡ 6) → Stays (K.tables place keeper) (K.tables place result.keeper) }
-    ensures keeper_fault { result.status.0 ≡ 5 → Rose (K.faults keeper) (K.faults result.keeper) }
-    ensures refused { result.status.0 ≡ 6 → IsRefused (K.tables place keeper) (O.written sink.old) (O.written sink.new) (O.faults sink.old) (O.faults sink.new) }
-    ensures unopenable { result.status.0 ≡ 6 → IsUnopenable (K.tables place keeper) }
-    ensures read_fault { result.status.0 ≡ 3 → Rose (S.faults source.old) (S.faults source.new) }
-    ensures write_fault { result.status.0 ≡ 4 → Rose (O.faults sink.old) (O.faults sink.new) }
-    ensures memory { result.status.0 ≡ 9 → (source.new ≡ source.old) × (sink.new ≡ sink.old) }
-    ensures read_later { S.faults source.old ≤ S.faults source.new }
-    ensures write_later { O.faults sink.old ≤ O.faults sink.new }
-    ensures ended { (result.status.0 ≡ 0) ⊎ ((result.status.0 ≡ 3) ⊎ ((result.status.0 ≡ 4) ⊎ ((result.status.0 ≡ 5) ⊎ ((result.status.0 ≡ 6) ⊎ ((result.status.0 ≡ 9) ⊎ (result.status.0 ≡ 10)))))) }
+    ensures { EndsAsStoredConnection S.left S.faults O.written O.faults K.tables K.faults place orphans result.status source.old source.new sink.old sink.new keeper result.keeper }
 {
     match open(alloc, &Layered, keeper, place, orphans, INPUT_LIMIT) {
         Ok(opened) => {

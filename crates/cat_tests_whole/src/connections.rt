@@ -1,7 +1,6 @@
 //! Two connections that are served at once, beside workers.
-use crate::tool::given;
 use cat_collections::map::Map;
-use cat_command_line::Serving;
+use cat_command_line::{CatalogueOptions, ServerOptions, Serving};
 use cat_connection::Status;
 use cat_io::{FixedClock, MemorySink, ReadAnswer, Sink, Source, WriteAnswer};
 use cat_keeper::keeper::{Committed, Keeper, Loaded, Place};
@@ -10,6 +9,7 @@ use cat_keeper::rows::Batch;
 use cat_keeper::table::Table;
 use cat_listener::{Accepted, Connection, Doors, Listened};
 use cat_server::run_server;
+use cat_tree::text::Text;
 use std::alloc::Global;
 use std::sync::atomic::{AtomicBool, AtomicU64, Ordering};
 use std::test::Fail;
@@ -20,17 +20,6 @@ const MOST_LOOKS: u64 = 1_000_000;
 
 /// How often an entity is asked for.
 const MOST_ASKS: u64 = 100_000;
-
-const WORDS: [&str; 8] = [
-    "serve",
-    "x",
-    "--workers",
-    "1",
-    "--connections",
-    "2",
-    "--store",
-    "y",
-];
 
 /// Gives a Component.
 const POST: &[u8] =
@@ -240,7 +229,6 @@ impl<'a> Doors for Porch<'a> {
 #[test]
 fn a_connection_hears_what_workers_make(rt: HostRuntime) -> Result<(), Fail> {
     let alloc = rt.alloc();
-    let words = given(alloc, &WORDS)?;
     let scene = Scene {
         came: AtomicU64::new(0),
         met: AtomicU64::new(0),
@@ -257,22 +245,26 @@ fn a_connection_hears_what_workers_make(rt: HostRuntime) -> Result<(), Fail> {
         scene: &scene,
     };
     let serving = Serving {
-        orphans: None,
-        kept: true,
-        workers: 1,
-        connections: 2,
+        address: Text::of(alloc, "x")?,
+        catalogue: CatalogueOptions {
+            orphans: None,
+            place: Some(Place::File(Text::of(alloc, "a.db")?)),
+        },
+        server: ServerOptions {
+            workers: 1,
+            connections: 2,
+        },
     };
     let ended = run_server(
         &rt,
         alloc,
-        words.as_slice(),
         serving,
         &mut sink,
         FixedClock::at(0),
         &mut doors,
         keeper,
     );
-    assert_eq!(rt; ended.status, Status(0));
+    assert_eq!(rt; ended.status, Status::Whole);
     assert_eq!(rt; scene.met.load(Ordering::SeqCst), 2);
     assert!(rt; scene.found.load(Ordering::SeqCst));
     assert!(rt; scene.kept.load(Ordering::SeqCst));

@@ -25,7 +25,7 @@ fn opened(
 ) -> Result<(bool, JournalKeeper<MemoryDisk>), AllocError> {
     let keeper = JournalKeeper::over(MemoryDisk::new(bytes, vec![in alloc; failing]?));
     let (ran, _) = session_writes(alloc, keeper, Vec::new(alloc), b"");
-    Ok((ran.status == Status(0), ran.keeper))
+    Ok((ran.status == Status::Whole, ran.keeper))
 }
 
 // Whether what a crash leaves opens, and has the rows then.

@@ -11,12 +11,16 @@ fn ended(alloc: Global, failing: u64, rows: &[Row]) -> Result<(Status, bool), Al
 }
 
 // The call of the keeper that fails, the status, and the rows that are there afterwards.
-const CASES: [(u64, u8, &[Row]); 3] = [(1, 5, &FIRST), (2, 5, &FIRST), (9, 0, &SECOND)];
+const CASES: [(u64, Status, &[Row]); 3] = [
+    (1, Status::StoreFault, &FIRST),
+    (2, Status::StoreFault, &FIRST),
+    (9, Status::Whole, &SECOND),
+];
 
 #[test]
 fn a_store_is_brought_over_or_stays(rt: HostRuntime) -> Result<(), AllocError> {
     for (failing, status, rows) in CASES.iter() {
-        assert_eq!(rt; ended(rt.alloc(), *failing, rows)?, (Status(*status), true));
+        assert_eq!(rt; ended(rt.alloc(), *failing, rows)?, (*status, true));
     }
     Ok(())
 }

@@ -68,13 +68,13 @@ fn broken_off(alloc: Global) -> Result<(Status, bool), AllocError> {
 #[test]
 fn lines_come_to_the_same_wherever_they_are_cut(rt: HostRuntime) -> Result<(), AllocError> {
     for place in 0..5usize {
-        assert_eq!(rt; cut(rt.alloc(), place)?, (Status(0), true));
+        assert_eq!(rt; cut(rt.alloc(), place)?, (Status::Whole, true));
     }
     Ok(())
 }
 
 #[test]
 fn the_first_session_that_breaks_off_is_the_last(rt: HostRuntime) -> Result<(), AllocError> {
-    assert_eq!(rt; broken_off(rt.alloc())?, (Status(5), true));
+    assert_eq!(rt; broken_off(rt.alloc())?, (Status::StoreFault, true));
     Ok(())
 }

@@ -13,23 +13,23 @@ const OWNER: &[u8] =
 
 // The call of the keeper that fails, the status, what is written to two mutations, a settle, the state and another settle, and what a second
 // session writes. A settle that is cut has leased the record, and the next one goes on.
-const CASES: [(u64, u8, &[u8], &[u8]); 4] = [
-    (1, 5, b"", NOTHING),
+const CASES: [(u64, Status, &[u8], &[u8]); 4] = [
+    (1, Status::StoreFault, b"", NOTHING),
     (
         2,
-        0,
+        Status::Whole,
         b"refused keeper\nok\nsettled 1 1 1\nstate records 1 orphans 0 due 0 leased 0 marked 0\nsettled 0 0 0\n",
         DUE,
     ),
     (
         3,
-        0,
+        Status::Whole,
         b"ok\nok again\ncut 1 keeper\nstate records 1 orphans 0 due 1 leased 1 marked 0\nsettled 1 1 1\n",
         DUE,
     ),
     (
         9,
-        0,
+        Status::Whole,
         b"ok\nok again\nsettled 1 1 1\nstate records 1 orphans 0 due 0 leased 0 marked 0\nsettled 0 0 0\n",
         DUE,
     ),
@@ -59,7 +59,7 @@ fn what_is_kept_is_there_again(rt: HostRuntime) -> Result<(), AllocError> {
     for (failing, status, written, again) in CASES.iter() {
         assert_eq!(rt;
             two_sessions(rt.alloc(), *failing, written, again)?,
-            (Status(*status), true, true)
+            (*status, true, true)
         );
     }
     Ok(())
@@ -150,7 +150,7 @@ fn named(alloc: Global) -> Result<(Status, bool), AllocError> {
 
 #[test]
 fn a_row_without_a_reading_is_named(rt: HostRuntime) -> Result<(), AllocError> {
-    assert_eq!(rt; named(rt.alloc())?, (Status(6), true));
+    assert_eq!(rt; named(rt.alloc())?, (Status::BadRow, true));
     Ok(())
 }
 
@@ -173,6 +173,6 @@ fn answered(alloc: Global) -> Result<(Status, bool), AllocError> {
 // Of three messages with one serial the first isn't kept, the second acts, and the third comes again.
 #[test]
 fn a_message_is_refused(rt: HostRuntime) -> Result<(), AllocError> {
-    assert_eq!(rt; answered(rt.alloc())?, (Status(0), true));
+    assert_eq!(rt; answered(rt.alloc())?, (Status::Whole, true));
     Ok(())
 }

@@ -45,7 +45,7 @@ fn main(rt: HostRuntime) -> ExitCode {
             )
             .status
         }
-        Err(_) => Status(9),
+        Err(_) => Status::NoMemory,
     };
-    ExitCode::from(status.0)
+    ExitCode::from(status.number())
 }

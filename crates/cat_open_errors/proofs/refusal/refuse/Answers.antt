@@ -2,7 +2,7 @@ use Rattle.std.proofs.Common.{◌⊎◌, ◌∙◌, subst}
 use Rattle.std.specs.Io.KnownBytes.{Appends}
 use Rattle.cat_io.specs.Causes.{Rose}
 use Rattle.cat_io.specs.Sink.{AppendsFront}
-use Rattle.cat_open_errors.proofs.Writing.{told}
+use Rattle.cat_connection.proofs.Telling.{told}
 use Rattle.cat_open_errors.proofs.refusal.refuse.Goals as goal
 
 pub returns-in-Ok-clause-refused : goal.returns-in-Ok-clause-refused

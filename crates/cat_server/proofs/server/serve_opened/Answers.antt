@@ -1,3 +1,5 @@
+use Rattle.std.proofs.Common.{inl, inr, refl, rules, arith}
+use Rattle.std.proofs.lemmas.Grind.{common_steps}
 use denote.Exit.{no}
 use denote.Param.Send.{arg_send, param_send}
 use Rattle.cat_server.proofs.Sent.{kept_send}
@@ -5,3 +7,21 @@ use Rattle.cat_server.proofs.server.serve_opened.Goals as goal
 
 pub serve-requires-send-B : goal.serve-requires-send-B
 serve-requires-send-B g c κs = λ e. param_send _ _ (arg_send _ no _ (kept_send _ c.type_bounds.send-C _ g.K.Keeper g.C.Clock c.type_bounds.send-K))
+
+pub returns-in-Ready : goal.returns-in-Ready
+returns-in-Ready g c = record {
+  well = c.serve.ensures.closed;
+  doors_fault = first_of (search rules, grind (arith, common_steps));
+  memory = first_of (search rules, grind (arith, common_steps));
+  later = first_of (omega arith, search rules);
+  statuses = c.serve.ensures.ended;
+}
+
+pub returns-in-Failed : goal.returns-in-Failed
+returns-in-Failed g c = record {
+  well = first_of (search rules, grind (arith, common_steps));
+  doors_fault = first_of (search rules, grind (arith, common_steps));
+  memory = first_of (search rules, grind (arith, common_steps));
+  later = first_of (search rules, grind (arith, common_steps));
+  statuses = inr (inl refl);
+}
