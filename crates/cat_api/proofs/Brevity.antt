@@ -6,10 +6,10 @@ use Rattle.std.proofs.lemmas.Fmt.{length-decimal-le}
 use Rattle.cat_feed.specs.Place.{since_text}
 use Rattle.cat_feed.specs.declared.change.Since.{Since}
 use Rattle.cat_http.specs.Errors.{error_body}
-use Rattle.cat_http.specs.Status.{code, phrase, has_content, has_methods}
+use Rattle.cat_http.specs.Status.{code, phrase, has_challenge, has_content, has_methods}
 use Rattle.cat_http.specs.declared.status.Status.{Status}
 use Rattle.cat_http.specs.declared.status.Status.TheVariants as status
-use Rattle.cat_http.specs.Reply.{status_line, content_lines, allow_line, close_line, end_of, reply_bytes}
+use Rattle.cat_http.specs.Reply.{status_line, content_lines, allow_line, challenge_line, guard_line, close_line, end_of, reply_bytes}
 use Rattle.cat_http.specs.declared.message.Message.{Message}
 use Rattle.cat_http.specs.declared.reply.HttpReply.{HttpReply}
 use Rattle.cat_model.specs.declared.types.Acted.{Acted}
@@ -94,6 +94,7 @@ cut_short events counter h =
     omega (arith, a, b, c, d, counter_short counter, short_decimal events h)
 
 words_short : (r : Refusal) → IsShortRefusal r → HasNumbers r → length (joined (words_of r)) ≤ 60
+words_short refusal.Origin s n = omega arith
 words_short refusal.Route s n = omega arith
 words_short (refusal.Method ms) s n = absurd s
 words_short refusal.Entity s n = omega arith
@@ -152,6 +153,7 @@ body_short (Settled counts) s n = counts_short counts n
 body_short (Refused r) s n = error_short (status_of r) (joined (words_of r)) (words_short r s n)
 
 allows_none : (r : Refusal) → IsShortRefusal r → allowed r ≡ []
+allows_none refusal.Origin s = refl
 allows_none refusal.Route s = refl
 allows_none (refusal.Method ms) s = absurd s
 allows_none refusal.Entity s = refl
@@ -245,22 +247,35 @@ end_short r =
       | false ↦ omega (arith, length-append (codes "\r\n") r.body)
     ]
 
+challenge_short : (s : Status) → length (challenge_line s) ≤ 26
+challenge_short s = elim (has_challenge s) as (λ t. length (if t then codes "WWW-Authenticate: Bearer\r\n" else []) ≤ 26) [ true ↦ omega arith | false ↦ omega arith ]
+
+guard_short : (b : Bool) → length (guard_line b) ≤ 33
+guard_short true = omega arith
+guard_short false = omega arith
+
 -- a brief reply fits the room that is taken for it
 pub reply_short : (r : HttpReply) → IsBrief r → length (reply_bytes r) ≤ 512
 reply_short r b =
     let z = close_line r.close ++ end_of r in
-    let y = allow_line r.status r.allow ++ z in
+    let v = guard_line r.browser ++ z in
+    let w = challenge_line r.status ++ v in
+    let y = allow_line r.status r.allow ++ w in
     let x = content_lines r.status r.body ++ y in
     let none : length (allow_line r.status r.allow) ≤ 9 = subst (λ l. length (allow_line r.status l) ≤ 9) (sym b.1) (allow_short r.status) in
     omega (
       arith,
       length-append (status_line r.status) x,
       length-append (content_lines r.status r.body) y,
-      length-append (allow_line r.status r.allow) z,
+      length-append (allow_line r.status r.allow) w,
+      length-append (challenge_line r.status) v,
+      length-append (guard_line r.browser) z,
       length-append (close_line r.close) (end_of r),
       line_short r.status,
       content_short r.status r.body (omega (arith, b.0)),
       none,
+      challenge_short r.status,
+      guard_short r.browser,
       close_short r.close,
       end_short r,
       b.0,

@@ -12,6 +12,7 @@
 
 pub mod answer;
 pub mod kind;
+pub mod law;
 mod room;
 pub mod service;
 pub mod task;
