@@ -5,14 +5,14 @@ use Rattle.std.specs.Fmt.{decimal}
 use Rattle.std.proofs.lemmas.Fmt.{length-decimal-le}
 use Rattle.cat_feed.specs.Place.{since_text}
 use Rattle.cat_feed.specs.declared.change.Since.{Since}
-use Rattle.cat_http.specs.Content.{media_type, rules_of}
+use Rattle.cat_http.specs.Content.{has_rules, media_type, rules_of}
 use Rattle.cat_http.specs.declared.content.Content.{Content}
 use Rattle.cat_http.specs.declared.content.Content.TheVariants as content
 use Rattle.cat_http.specs.Errors.{error_body}
-use Rattle.cat_http.specs.Status.{code, phrase, has_content, has_methods}
+use Rattle.cat_http.specs.Status.{code, phrase, has_challenge, has_content, has_methods}
 use Rattle.cat_http.specs.declared.status.Status.{Status}
 use Rattle.cat_http.specs.declared.status.Status.TheVariants as status
-use Rattle.cat_http.specs.Reply.{status_line, content_lines, rule_lines, allow_line, close_line, end_of, reply_bytes}
+use Rattle.cat_http.specs.Reply.{status_line, content_lines, rule_lines, allow_line, challenge_line, guard_line, close_line, end_of, reply_bytes}
 use Rattle.cat_http.specs.declared.message.Message.{Message}
 use Rattle.cat_http.specs.declared.reply.HttpReply.{HttpReply}
 use Rattle.cat_model.specs.declared.types.Acted.{Acted}
@@ -97,6 +97,7 @@ cut_short events counter h =
     omega (arith, a, b, c, d, counter_short counter, short_decimal events h)
 
 words_short : (r : Refusal) → IsShortRefusal r → HasNumbers r → length (joined (words_of r)) ≤ 60
+words_short refusal.Origin s n = omega arith
 words_short refusal.Route s n = omega arith
 words_short (refusal.Method ms) s n = absurd s
 words_short refusal.Entity s n = omega arith
@@ -157,6 +158,7 @@ body_short (Settled counts) s n = counts_short counts n
 body_short (Refused r) s n = error_short (status_of r) (joined (words_of r)) (words_short r s n)
 
 allows_none : (r : Refusal) → IsShortRefusal r → allowed r ≡ []
+allows_none refusal.Origin s = refl
 allows_none refusal.Route s = refl
 allows_none (refusal.Method ms) s = absurd s
 allows_none refusal.Entity s = refl
@@ -282,11 +284,19 @@ end_short r =
       | false ↦ omega (arith, length-append (codes "\r\n") r.body)
     ]
 
+challenge_short : (s : Status) → length (challenge_line s) ≤ 26
+challenge_short s = elim (has_challenge s) as (λ t. length (if t then codes "WWW-Authenticate: Bearer\r\n" else []) ≤ 26) [ true ↦ omega arith | false ↦ omega arith ]
+
+guard_short : (b : Bool) (c : Content) → length (guard_line b c) ≤ 33
+guard_short b c = elim (b && not (has_rules c)) as (λ t. length (if t then codes "X-Content-Type-Options: nosniff\r\n" else []) ≤ 33) [ true ↦ omega arith | false ↦ omega arith ]
+
 -- a brief reply fits the room that is taken for it
 pub reply_short : (r : HttpReply) → IsBrief r → length (reply_bytes r) ≤ 1024
 reply_short r b =
     let z = close_line r.close ++ end_of r in
-    let y = allow_line r.status r.allow ++ z in
+    let v = guard_line r.browser r.content ++ z in
+    let u = challenge_line r.status ++ v in
+    let y = allow_line r.status r.allow ++ u in
     let w = rule_lines r.status r.content ++ y in
     let x = content_lines r.status r.content r.body ++ w in
     let none : length (allow_line r.status r.allow) ≤ 9 = subst (λ l. length (allow_line r.status l) ≤ 9) (sym b.1) (allow_short r.status) in
@@ -296,11 +306,15 @@ reply_short r b =
       length-append (content_lines r.status r.content r.body) w,
       length-append (rule_lines r.status r.content) y,
       rule_short r.status r.content,
-      length-append (allow_line r.status r.allow) z,
+      length-append (allow_line r.status r.allow) u,
+      length-append (challenge_line r.status) v,
+      length-append (guard_line r.browser r.content) z,
       length-append (close_line r.close) (end_of r),
       line_short r.status,
       content_short r.status r.content r.body (omega (arith, b.0)),
       none,
+      challenge_short r.status,
+      guard_short r.browser r.content,
       close_short r.close,
       end_short r,
       b.0,

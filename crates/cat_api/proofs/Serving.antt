@@ -147,7 +147,6 @@ module _ {A T : Type 0} (rules : Rules) (timed : A → T) (catalogue : T → Led
             h.4 ∙ ap (λ a. reply_to m a) t.0,
           ),
         )
-
     done_at (Show file) m r h = (subst IsAtZero (sym h.0) zero, (plain, tt, ap wired h.0, h.1))
 
     -- memory was wanted for an operation
@@ -174,7 +173,6 @@ module _ {A T : Type 0} (rules : Rules) (timed : A → T) (catalogue : T → Led
             ],
           )
     ]
-
     lacked_at (Show file) h = (subst IsAtZero (sym h) zero, inl (ap wired h))
 
     requested_at : (asked : Result Request Refusal) (m : Message) (r : HttpReply) → Answers acts_at asks_at tells_at old new asked m r

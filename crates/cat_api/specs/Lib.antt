@@ -3,3 +3,4 @@ pub mod Operations
 pub mod Wire
 pub mod Answering
 pub mod Room
+pub mod Senders

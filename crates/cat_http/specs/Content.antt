@@ -1,5 +1,5 @@
 -- What the body of a reply is.
-use Rattle.std.specs.Prelude.{ℕ, List, [], ◌++◌, codes}
+use Rattle.std.specs.Prelude.{ℕ, Bool, true, false, List, [], ◌++◌, codes}
 use Rattle.cat_http.specs.declared.content.Content.{Content}
 use Rattle.cat_http.specs.declared.content.Content.TheVariants.{Json, Line, Document, Style, Script, Picture}
 
@@ -17,6 +17,11 @@ media_type Picture = codes "image/svg+xml"
 abbrev pub browser_rules : List ℕ
 browser_rules =
     codes "Content-Security-Policy: default-src 'none'; script-src 'self'; style-src 'self'; connect-src 'self'; img-src 'self'; base-uri 'none'; form-action 'none'; frame-ancestors 'none'\r\nX-Content-Type-Options: nosniff\r\nCache-Control: no-cache\r\n"
+
+-- whether a browser is told what it may do with a body
+abbrev pub has_rules : Content → Bool
+has_rules Json = false
+has_rules _ = true
 
 -- the fields that tell a browser what it may do with a body: none with JSON, whose replies stay as programs know them
 abbrev pub rules_of : Content → List ℕ

@@ -32,8 +32,9 @@ refusal rule = record {
   allow = [];
   close = true;
   bare = false;
+  browser = false;
 }
 
 -- a message that lacks memory is answered so; whether the connection ends, and whether it is a HEAD, is the message's
 abbrev pub no_memory : Bool → Bool → HttpReply
-no_memory close bare = record { status = InsufficientStorage; content = Json; body = error_body InsufficientStorage (codes "memory"); allow = []; close = close; bare = bare }
+no_memory close bare = record { status = InsufficientStorage; content = Json; body = error_body InsufficientStorage (codes "memory"); allow = []; close = close; bare = bare; browser = false }

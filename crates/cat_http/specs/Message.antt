@@ -1,7 +1,11 @@
 -- What stands at the front of the bytes of a connection: a whole message, a refused one, or less.
-use Rattle.std.specs.Prelude.{◌≡◌, ◌≢◌, ℕ, ◌+◌, ◌<◌, ◌≤◌, ⊤, ◌⊎◌, ◌&&◌, not, List, ◌++◌, length, take, drop, if◌then◌else◌, ◌==◌, nat_lt, nat_le, MatchBool, Option, None, Some, codes, bytes_eq, Result, Ok, Err}
+use Rattle.std.specs.Prelude.{◌≡◌, ◌≢◌, ℕ, ◌+◌, ◌<◌, ◌≤◌, ⊤, ◌⊎◌, ◌&&◌, not, List, [], ◌∷◌, ◌++◌, length, take, drop, if◌then◌else◌, ◌==◌, nat_lt, nat_le, MatchBool, Option, None, Some, codes, bytes_eq, Result, Ok, Err}
+use Rattle.std.specs.List.{list_any}
 use Rattle.httparse.specs.Grammar.{RequestHead, IsRequestHead, print_request}
+use Rattle.cat_http.specs.declared.message.Field.{Field}
+use Rattle.cat_http.specs.declared.message.Field.TheVariants.{Absent, Once, Often}
 use Rattle.cat_http.specs.declared.message.Message.{Message}
+use Rattle.cat_http.specs.declared.message.Sender.{Sender}
 use Rattle.cat_http.specs.declared.message.Lack.{Lack}
 use Rattle.cat_http.specs.declared.message.Next.{Next}
 use Rattle.cat_http.specs.declared.message.Next.TheVariants.{Whole, More, Refused}
@@ -11,7 +15,7 @@ use Rattle.cat_http.specs.declared.status.Status.{Status}
 use Rattle.cat_http.specs.declared.status.Status.TheVariants as status
 use Rattle.cat_http.specs.Status.{code}
 use Rattle.cat_http.specs.Lines.{blank, head_length, line_count}
-use Rattle.cat_http.specs.Head.{Parts, parts_of, values, body_length, is_last, origin, path_of, query_of}
+use Rattle.cat_http.specs.Head.{Parts, parts_of, values, body_length, is_fetch_name, is_last, origin, path_of, query_of}
 
 -- the status that a broken rule is answered with
 abbrev pub rule_status : Rule → Status
@@ -42,6 +46,21 @@ check minor fields =
     else (if not (length (values (codes "transfer-encoding") fields) == 0) then Err TransferCoding
     else sized (body_length (values (codes "content-length") fields)))
 
+-- what stands in the fields that have these values
+abbrev pub field_of : List (List ℕ) → Field
+field_of [] = Absent
+field_of (value ∷ []) = Once value
+field_of (value ∷ other ∷ values) = Often
+
+-- what the fields say of who sends the message
+abbrev pub sender_of : List (List ℕ × List ℕ) → Sender
+sender_of fields = record {
+  host = field_of (values (codes "host") fields);
+  origin = field_of (values (codes "origin") fields);
+  authorization = field_of (values (codes "authorization") fields);
+  fetches = list_any (λ f. is_fetch_name f.0) fields;
+}
+
 -- the message of a head and its body
 abbrev pub message_of : Parts → List ℕ → Message
 message_of p body = record {
@@ -50,6 +69,7 @@ message_of p body = record {
   query = query_of (origin p.target);
   body = body;
   last = is_last p.minor p.fields;
+  sender = sender_of p.fields;
 }
 
 -- a head that breaks no rule is a message once its body is there

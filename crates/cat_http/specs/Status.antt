@@ -48,3 +48,8 @@ has_content _ = true
 abbrev pub has_methods : Status → Bool
 has_methods status.MethodNotAllowed = true
 has_methods _ = false
+
+-- replies with status 401 ask for a token
+abbrev pub has_challenge : Status → Bool
+has_challenge status.Unauthorized = true
+has_challenge _ = false

@@ -34,6 +34,13 @@ impl Content {
         }
     }
 
+    /// Whether a browser is told what it may do with a body.
+    pub(crate) fn has_rules(self) -> bool
+        ensures { result ≡ spec.has_rules self }
+    {
+        !matches!(self, Content::Json)
+    }
+
     /// What a browser is told of a body beside its type: nothing of JSON.
     pub(crate) fn rules(self) -> &'static str
         ensures { result.now ≡ spec.rules_of self }

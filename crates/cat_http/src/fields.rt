@@ -3,7 +3,7 @@ ghost use Rattle.std.specs.Prelude.{◌≡◌, ℕ, ◌≤◌, ◌<◌, length, 
 ghost use Rattle.std.specs.List.{list_all, list_any};
 ghost use Rattle.std.specs.Str.Parse.{digits_value};
 ghost use Rattle.httparse.specs.Spans.{IsHeaderWithin, header_bytes};
-ghost use Rattle.cat_http.specs.Head.{values, is_length, is_close, has_close, same_but_case};
+ghost use Rattle.cat_http.specs.Head.{values, is_length, is_close, has_close, is_fetch_name, same_but_case};
 ghost use Rattle.httparse.specs.Grammar.{is_ows, skip_ows};
 ghost use Rattle.cat_http.specs.Found.{Finds};
 
@@ -104,6 +104,28 @@ pub fn asks_to_close(head: &[u8], fields: &[HeaderSpan], name: &[u8]) -> bool
 {
     for field in fields {
         if is_same(field.name.of(head), name) && has_close_word(field.value.of(head)) {
+            return true;
+        }
+    }
+    false
+}
+
+fn is_fetch_name(name: &[u8]) -> bool
+    ensures { result ≡ is_fetch_name name.now }
+{
+    if name.len() < 10 {
+        return false;
+    }
+    is_same(&name[..10], b"sec-fetch-")
+}
+
+/// Whether a field's name begins with `Sec-Fetch-`.
+pub fn has_fetch_field(head: &[u8], fields: &[HeaderSpan]) -> bool
+    requires { All (IsHeaderWithin (length head.now)) fields.now }
+    ensures { result ≡ list_any (λ f. is_fetch_name f.0) (map (header_bytes head.now) fields.now) }
+{
+    for field in fields {
+        if is_fetch_name(field.name.of(head)) {
             return true;
         }
     }

@@ -1,12 +1,12 @@
 //! Messages, cut from the bytes of a connection.
 ghost use Rattle.std.specs.Prelude.{◌≡◌, ◌↔◌, ◌≤◌, ◌<◌, ◌+◌, ◌^◌, ◌&&◌, not, ◌==◌, nat_lt, ℕ, length, map, take, drop, codes, All, IfOk, IfErr, IsTrue, IsUtf8, slice_range};
 ghost use Rattle.httparse.specs.Spans.{IsWithin, IsHeaderWithin, header_bytes, span_bytes};
-ghost use Rattle.cat_http.specs.Head.{Parts, parts_at, values, body_length, is_last, origin, path_of, query_of};
-ghost use Rattle.cat_http.specs.Message.{rule_status, refused, sized, check, message_of, answered, AnswersHead, AnswersRest, headless, Stands, Lacks, OneStands, StandsLater, TakesWithin, HasNoEarlier, Gives, GivesWhat};
+ghost use Rattle.cat_http.specs.Head.{parts_at, parts_in, values, body_length, is_last};
+ghost use Rattle.cat_http.specs.Message.{rule_status, refused, sized, check, field_of, sender_of, message_of, answered, AnswersHead, AnswersRest, headless, Stands, Lacks, OneStands, StandsLater, TakesWithin, HasNoEarlier, Gives, GivesWhat};
 ghost use Rattle.cat_http.specs.Lines.{head_length};
 
 use crate::body::Bytes;
-use crate::fields::{Found, asks_to_close, find_field, read_length};
+use crate::fields::{Found, asks_to_close, find_field, has_fetch_field, read_length};
 use crate::head::{blank_length, count_lines, find_head};
 use crate::request_target::cut_target;
 use crate::status::Status;
@@ -36,6 +36,32 @@ pub struct Message {
     pub body: Bytes,
     /// Whether the connection ends after it.
     pub last: bool,
+    /// What the head says of who sends it.
+    pub sender: Sender,
+}
+
+/// What a head says of who sends the message.
+#[derive(Drop)]
+pub struct Sender {
+    /// The field `Host`: under which name the server was asked.
+    pub host: Field,
+    /// The field `Origin`: whose page a browser shows that sends the message.
+    pub origin: Field,
+    /// The field `Authorization`.
+    pub authorization: Field,
+    /// Whether a field's name begins with `Sec-Fetch-`, as those of browsers do.
+    pub fetches: bool,
+}
+
+/// What stands in the fields of one name.
+#[derive(Drop)]
+pub enum Field {
+    /// There is no such field.
+    Absent,
+    /// It stands once, with this value.
+    Once(Bytes),
+    /// It stands more than once.
+    Often,
 }
 
 /// The first check that a message fails.
@@ -165,28 +191,61 @@ fn text_of(bytes: &[u8]) -> &str
     }
 }
 
+fn field_of(
+    alloc: Global,
+    head: &[u8],
+    fields: &[HeaderSpan],
+    name: &[u8],
+) -> Result<Field, AllocError>
+    requires { All (IsHeaderWithin (length head.now)) fields.now }
+    ensures { IfOk result (λ f. f ≡ field_of (values name.now (map (header_bytes head.now) fields.now))) }
+{
+    match find_field(head, fields, name) {
+        Found::Absent => Ok(Field::Absent),
+        Found::Once(value) => Ok(Field::Once(Bytes::of(alloc, value.of(head))?)),
+        Found::Often => Ok(Field::Often),
+    }
+}
+
+fn sender_of(alloc: Global, head: &[u8], fields: &[HeaderSpan]) -> Result<Sender, AllocError>
+    requires { All (IsHeaderWithin (length head.now)) fields.now }
+    ensures { IfOk result (λ s. s ≡ sender_of (map (header_bytes head.now) fields.now)) }
+{
+    let host = field_of(alloc, head, fields, b"host")?;
+    let origin = field_of(alloc, head, fields, b"origin")?;
+    let authorization = field_of(alloc, head, fields, b"authorization")?;
+    Ok(Sender {
+        host,
+        origin,
+        authorization,
+        fetches: has_fetch_field(head, fields),
+    })
+}
+
+// The message of this head and body.
 fn make_message(
     alloc: Global,
-    method: &str,
-    target: &str,
+    head: &[u8],
+    fields: &[HeaderSpan],
+    spans: RequestSpans,
     body: &[u8],
-    last: bool,
 ) -> Result<Message, AllocError>
-    ensures { IfOk result (λ m. m ≡ record {
-      method = method.now;
-      path = path_of (origin target.now);
-      query = query_of (origin target.now);
-      body = body.now;
-      last = last;
-    }) }
+    requires method { IsWithin (length head.now) spans.method }
+    requires path { IsWithin (length head.now) spans.path }
+    requires fields { All (IsHeaderWithin (length head.now)) fields.now }
+    requires method_text { IsUtf8 (span_bytes head.now spans.method) }
+    requires path_text { IsUtf8 (span_bytes head.now spans.path) }
+    ensures { IfOk result (λ m. m ≡ message_of (parts_in head.now fields.now spans) body.now) }
 {
-    let (path, query) = cut_target(target);
+    let method = text_of(spans.method.of(head));
+    let (path, query) = cut_target(text_of(spans.path.of(head)));
     Ok(Message {
         method: Text::of(alloc, method)?,
         path: Text::of(alloc, path)?,
         query: Text::of(alloc, query)?,
         body: Bytes::of(alloc, body)?,
-        last,
+        last: ends_connection(head, fields, spans.version),
+        sender: sender_of(alloc, head, fields)?,
     })
 }
 
@@ -216,10 +275,8 @@ fn answer(
                 return Ok(Next::More);
             }
             let last = ends_connection(head, fields, spans.version);
-            let method = text_of(spans.method.of(head));
-            let target = text_of(spans.path.of(head));
-            let bare = method == "HEAD";
-            match make_message(alloc, method, target, &after[..length], last) {
+            let bare = text_of(spans.method.of(head)) == "HEAD";
+            match make_message(alloc, head, fields, spans, &after[..length]) {
                 Ok(message) => Ok(Next::Whole(message, (used + length) as u64)),
                 Err(_) => Err(Lack {
                     used: (used + length) as u64,

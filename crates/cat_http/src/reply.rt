@@ -1,7 +1,7 @@
 //! The bytes of replies.
 ghost use Rattle.std.specs.Prelude.{◌≡◌, ◌≤◌, ◌<◌, ◌+◌, ◌++◌, [], codes, decimal, length, flat_map, OnOk, OnErr, is_ok, vec_len, vec_capacity};
 ghost use Rattle.cat_http.specs.Content.{media_type, rules_of};
-ghost use Rattle.cat_http.specs.Reply.{joined, status_line, content_lines, rule_lines, allow_line, close_line, end_of, reply_bytes, Adds};
+ghost use Rattle.cat_http.specs.Reply.{joined, status_line, content_lines, rule_lines, allow_line, challenge_line, guard_line, close_line, end_of, from_allow, from_challenge, from_rules, reply_bytes, Adds};
 ghost use Rattle.cat_http.specs.Status.{phrase};
 
 use crate::body::{Bytes, Texts};
@@ -26,6 +26,8 @@ pub struct HttpReply {
     pub close: bool,
     /// Whether it answers HEAD.
     pub bare: bool,
+    /// Whether it goes to a browser.
+    pub browser: bool,
 }
 
 fn put(out: &mut Vec<u8>, bytes: &[u8]) -> Result<(), AllocError>
@@ -176,6 +178,28 @@ fn put_end(out: &mut Vec<u8>, reply: &HttpReply) -> Result<(), AllocError>
     }
 }
 
+fn put_challenge(out: &mut Vec<u8>, status: Status) -> Result<(), AllocError>
+    ensures { Adds out.old.items out.new.items (vec_capacity out.old) (vec_capacity out.new)
+        (is_ok result) (challenge_line status) }
+{
+    if status.has_challenge() {
+        put(out, b"WWW-Authenticate: Bearer\r\n")
+    } else {
+        put(out, b"")
+    }
+}
+
+fn put_guard(out: &mut Vec<u8>, browser: bool, content: Content) -> Result<(), AllocError>
+    ensures { Adds out.old.items out.new.items (vec_capacity out.old) (vec_capacity out.new)
+        (is_ok result) (guard_line browser content) }
+{
+    if browser && !content.has_rules() {
+        put(out, b"X-Content-Type-Options: nosniff\r\n")
+    } else {
+        put(out, b"")
+    }
+}
+
 fn put_last_lines(out: &mut Vec<u8>, reply: &HttpReply) -> Result<(), AllocError>
     ensures { Adds out.old.items out.new.items (vec_capacity out.old) (vec_capacity out.new)
         (is_ok result) (close_line reply.now.close ++ end_of reply.now) }
@@ -184,20 +208,26 @@ fn put_last_lines(out: &mut Vec<u8>, reply: &HttpReply) -> Result<(), AllocError
     put_end(out, reply)
 }
 
+fn put_from_challenge(out: &mut Vec<u8>, reply: &HttpReply) -> Result<(), AllocError>
+    ensures { Adds out.old.items out.new.items (vec_capacity out.old) (vec_capacity out.new)
+        (is_ok result) (from_challenge reply.now) }
+{
+    put_challenge(out, reply.status)?;
+    put_guard(out, reply.browser, reply.content)?;
+    put_last_lines(out, reply)
+}
+
 fn put_from_allow(out: &mut Vec<u8>, reply: &HttpReply) -> Result<(), AllocError>
     ensures { Adds out.old.items out.new.items (vec_capacity out.old) (vec_capacity out.new)
-        (is_ok result) (allow_line reply.now.status reply.now.allow
-        ++ (close_line reply.now.close ++ end_of reply.now)) }
+        (is_ok result) (from_allow reply.now) }
 {
     put_allow(out, reply.status, reply.allow.as_slice())?;
-    put_last_lines(out, reply)
+    put_from_challenge(out, reply)
 }
 
 fn put_from_rules(out: &mut Vec<u8>, reply: &HttpReply) -> Result<(), AllocError>
     ensures { Adds out.old.items out.new.items (vec_capacity out.old) (vec_capacity out.new)
-        (is_ok result) (rule_lines reply.now.status reply.now.content
-        ++ (allow_line reply.now.status reply.now.allow
-        ++ (close_line reply.now.close ++ end_of reply.now))) }
+        (is_ok result) (from_rules reply.now) }
 {
     put_rules(out, reply.status, reply.content)?;
     put_from_allow(out, reply)
@@ -205,10 +235,7 @@ fn put_from_rules(out: &mut Vec<u8>, reply: &HttpReply) -> Result<(), AllocError
 
 fn put_from_content(out: &mut Vec<u8>, reply: &HttpReply) -> Result<(), AllocError>
     ensures { Adds out.old.items out.new.items (vec_capacity out.old) (vec_capacity out.new)
-        (is_ok result) (content_lines reply.now.status reply.now.content reply.now.body
-        ++ (rule_lines reply.now.status reply.now.content
-        ++ (allow_line reply.now.status reply.now.allow
-        ++ (close_line reply.now.close ++ end_of reply.now)))) }
+        (is_ok result) (content_lines reply.now.status reply.now.content reply.now.body ++ from_rules reply.now) }
 {
     put_content(out, reply.status, reply.content, reply.body.as_slice())?;
     put_from_rules(out, reply)

@@ -103,4 +103,14 @@ impl Status {
             _ => false,
         }
     }
+
+    /// Whether a reply with this status asks for a token.
+    pub(crate) fn has_challenge(self) -> bool
+        ensures { result ≡ spec.has_challenge self }
+    {
+        match self {
+            Status::Unauthorized => true,
+            _ => false,
+        }
+    }
 }

@@ -151,7 +151,8 @@ sted or left over</li>\n\
 ";
 
 /// `page/catalogue.js`.
-pub(crate) const CATALOGUE_JS: &[u8] = b"// What the search knows of each entity: loaded page by page, and kept by `/changes`.\n\
+pub(crate) const CATALOGUE_JS: &[u8] =
+    b"// What the search knows of each entity: loaded page by page, and kept by `/changes`.\n\
 \n\
 import { h } from \"./dom.js\";\n\
 import { address, parts, refIn, resolved, shortName } from \"./refs.js\";\n\
@@ -266,7 +267,8 @@ export async function run() {\n\
 ";
 
 /// `page/dom.js`.
-pub(crate) const DOM_JS: &[u8] = b"// Elements of the page. Whatever comes from the catalogue becomes a text node, never markup.\n\
+pub(crate) const DOM_JS: &[u8] =
+    b"// Elements of the page. Whatever comes from the catalogue becomes a text node, never markup.\n\
 \n\
 export const find = (id) => document.getElementById(id);\n\
 \n\
@@ -335,7 +337,8 @@ export const listed = (title, list, item, none) =>\n\
 ";
 
 /// `page/entity.js`.
-pub(crate) const ENTITY_JS: &[u8] = b"// An entity: what it says, what is around it, where it comes from, and its text.\n\
+pub(crate) const ENTITY_JS: &[u8] =
+    b"// An entity: what it says, what is around it, where it comes from, and its text.\n\
 \n\
 import { catalogue, dot, link, listen, tagLinks } from \"./catalogue.js\";\n\
 import { find, h, listed, outside, section, show } from \"./dom.js\";\n\
@@ -445,7 +448,8 @@ ference.\");\n\
 ";
 
 /// `page/find.js`.
-pub(crate) const FIND_JS: &[u8] = b"// The first page: results of the search, with facets beside them.\n\
+pub(crate) const FIND_JS: &[u8] =
+    b"// The first page: results of the search, with facets beside them.\n\
 \n\
 import { catalogue, dot, link, listen, tagLinks, titleOf } from \"./catalogue.js\";\n\
 import { counted, find, h, number, ready, show } from \"./dom.js\";\n\
@@ -526,7 +530,8 @@ n(name, value)} \xc3\x97`));\n\
 ";
 
 /// `page/graph.js`.
-pub(crate) const GRAPH_JS: &[u8] = b"// A graph of what is around an entity: on its left what points to it, on its right what it points to.\n\
+pub(crate) const GRAPH_JS: &[u8] =
+    b"// A graph of what is around an entity: on its left what points to it, on its right what it points to.\n\
 \n\
 import { titleOf } from \"./catalogue.js\";\n\
 import { counted, h, svg } from \"./dom.js\";\n\
@@ -633,7 +638,8 @@ nd ${ref}` },\n\
 ";
 
 /// `page/group.js`.
-pub(crate) const GROUP_JS: &[u8] = b"// A group: all that it owns, also through the groups below it, its members, and its place in the tree of groups.\n\
+pub(crate) const GROUP_JS: &[u8] =
+    b"// A group: all that it owns, also through the groups below it, its members, and its place in the tree of groups.\n\
 \n\
 import { link, rowFor } from \"./catalogue.js\";\n\
 import { counted, h, listed, paged, section, show } from \"./dom.js\";\n\
@@ -699,13 +705,15 @@ nk(user)), \"Nobody.\"),\n\
 ";
 
 /// `page/icon.svg`.
-pub(crate) const ICON_SVG: &[u8] = b"<svg xmlns=\"http://www.w3.org/2000/svg\" viewBox=\"0 0 32 32\"><rect width=\"32\" height=\"32\" rx=\"7\" fill=\"#2459b8\"/><g fill=\"none\"\
+pub(crate) const ICON_SVG: &[u8] =
+    b"<svg xmlns=\"http://www.w3.org/2000/svg\" viewBox=\"0 0 32 32\"><rect width=\"32\" height=\"32\" rx=\"7\" fill=\"#2459b8\"/><g fill=\"none\"\
 \x20stroke=\"#fff\" stroke-width=\"2.2\"><path d=\"M11 10.5 21 16 11 21.5\"/><circle cx=\"10\" cy=\"10\" r=\"3.2\" fill=\"#2459b8\"/><circle cx\
 =\"10\" cy=\"22\" r=\"3.2\" fill=\"#2459b8\"/><circle cx=\"22\" cy=\"16\" r=\"3.2\" fill=\"#fff\"/></g></svg>\n\
 ";
 
 /// `page/main.js`.
-pub(crate) const MAIN_JS: &[u8] = b"// Which page the address shows, the field of the search, and the keys.\n\
+pub(crate) const MAIN_JS: &[u8] =
+    b"// Which page the address shows, the field of the search, and the keys.\n\
 \n\
 import { catalogue, listen, run } from \"./catalogue.js\";\n\
 import { counted, find, h, number, show } from \"./dom.js\";\n\
@@ -788,7 +796,8 @@ run();\n\
 ";
 
 /// `page/origin.js`.
-pub(crate) const ORIGIN_JS: &[u8] = b"// Where an entity comes from: the text that it stands in, the Location that names it, and so on up to a provider.\n\
+pub(crate) const ORIGIN_JS: &[u8] =
+    b"// Where an entity comes from: the text that it stands in, the Location that names it, and so on up to a provider.\n\
 \n\
 import { link } from \"./catalogue.js\";\n\
 import { h } from \"./dom.js\";\n\
@@ -826,7 +835,8 @@ export async function origins(ref, entity) {\n\
 ";
 
 /// `page/place.js`.
-pub(crate) const PLACE_JS: &[u8] = b"// Learns where the feed is without its documents: a place ahead of it is refused with its own. It is a worker, since a browser\n\
+pub(crate) const PLACE_JS: &[u8] =
+    b"// Learns where the feed is without its documents: a place ahead of it is refused with its own. It is a worker, since a browser\n\
 // shows what is refused to a page as an error.\n\
 \n\
 const LAST = \"18446744073709551615\";\n\
@@ -841,7 +851,8 @@ addEventListener(\"message\", async ({ data }) => postMessage(await placeIn(\"0\
 ";
 
 /// `page/refs.js`.
-pub(crate) const REFS_JS: &[u8] = b"// References, `kind:namespace/name`, and the relations between them.\n\
+pub(crate) const REFS_JS: &[u8] =
+    b"// References, `kind:namespace/name`, and the relations between them.\n\
 \n\
 import { find } from \"./dom.js\";\n\
 \n\
@@ -956,7 +967,8 @@ export const foremost = (counts, most) => [...counts].sort((a, b) => b[1] - a[1]
 ";
 
 /// `page/sentences.js`.
-pub(crate) const SENTENCES_JS: &[u8] = b"// What went wrong with an entity, in the sentences of the document.\n\
+pub(crate) const SENTENCES_JS: &[u8] =
+    b"// What went wrong with an entity, in the sentences of the document.\n\
 \n\
 import { find, h } from \"./dom.js\";\n\
 \n\
@@ -983,7 +995,8 @@ export const contest = ({ holder, waiting }) =>\n\
 ";
 
 /// `page/server.js`.
-pub(crate) const SERVER_JS: &[u8] = b"// Questions to the server that this page came from, and to no other.\n\
+pub(crate) const SERVER_JS: &[u8] =
+    b"// Questions to the server that this page came from, and to no other.\n\
 \n\
 import { find } from \"./dom.js\";\n\
 \n\
@@ -1035,7 +1048,8 @@ export const around = async (entityRefs) => (await post(\"/entities/by-refs\", {
 ";
 
 /// `page/state.js`.
-pub(crate) const STATE_JS: &[u8] = b"// The state of the catalogue: what waits, what is broken, contested or left over, and what changed.\n\
+pub(crate) const STATE_JS: &[u8] =
+    b"// The state of the catalogue: what waits, what is broken, contested or left over, and what changed.\n\
 \n\
 import { catalogue, link, listen } from \"./catalogue.js\";\n\
 import { h, listed, number, ready, show } from \"./dom.js\";\n\
@@ -1069,7 +1083,8 @@ othing.\"),\n\
 ";
 
 /// `page/style.css`.
-pub(crate) const STYLE_CSS: &[u8] = b"/* Colours stand first, for light and dark; then the frame, and then the parts in the order of the page. */\n\
+pub(crate) const STYLE_CSS: &[u8] =
+    b"/* Colours stand first, for light and dark; then the frame, and then the parts in the order of the page. */\n\
 \n\
 :root {\n\
 \x20 color-scheme: light dark;\n\

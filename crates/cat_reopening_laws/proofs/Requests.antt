@@ -19,9 +19,10 @@ use Rattle.cat_model.specs.Formed.{IsFormedGiven}
 use Rattle.cat_query.specs.Query.{parameters_of, values_named}
 use Rattle.cat_query.specs.declared.ask.Ask.{Ask}
 use Rattle.cat_query.specs.declared.ask.Ask.TheVariants as ask
+use Rattle.cat_access.specs.Browser.{is_admitted, no_access}
 use Rattle.cat_requests.specs.Bodies.{reference_of}
 use Rattle.cat_requests.specs.Paths.{resource_of}
-use Rattle.cat_requests.specs.Requests.{asked_by, entity, fixed_by, mutate, mutated, name_among, number, numbered_by, on, place_of, posted_by, posts, put_by, put_text, question, reads, request_of, requested, resource_asked, shelf_name, shelved_by, verb_of, with_method}
+use Rattle.cat_requests.specs.Requests.{admitted, asked_by, entity, fixed_by, mutate, mutated, name_among, number, numbered_by, on, place_of, posted_by, posts, put_by, put_text, question, reads, request_of, requested, resource_asked, shelf_name, shelved_by, verb_of, with_method}
 use Rattle.cat_requests.specs.declared.routes.Fixed.{Fixed}
 use Rattle.cat_requests.specs.declared.routes.Fixed.TheVariants as fixed
 use Rattle.cat_requests.specs.declared.path.Resource.{Resource}
@@ -145,9 +146,13 @@ requested_formed : (r : Result Resource Refusal) (m : Message) → IsFormedResul
 requested_formed (Ok r) m = resource_formed r (verb_of m.method) m
 requested_formed (Err refusal) m = tt
 
+admitted_formed : (t : Bool) (m : Message) → IsFormedResult (admitted t m)
+admitted_formed true m = requested_formed (resource_of m.path) m
+admitted_formed false m = tt
+
 message_formed : (m : Message) → IsFormedResult (request_of m)
 unfolding request_of
-message_formed m = requested_formed (resource_of m.path) m
+message_formed m = admitted_formed (is_admitted no_access m) m
 
 pub request_formed : (m : Message) (r : Request) → request_of m ≡ Ok r → IsFormedRequest r
 request_formed m r e = subst IsFormedResult e (message_formed m)

@@ -1,6 +1,7 @@
 -- The reply to a message, by what is answered to its request.
 use Rattle.std.specs.Prelude.{⊤, ℕ, List, [], ◌∷◌, bytes_eq, codes}
 use Rattle.std.specs.Fmt.{decimal}
+use Rattle.cat_access.specs.Browser.{is_from_browser}
 use Rattle.cat_http.specs.declared.message.Message.{Message}
 use Rattle.cat_http.specs.declared.reply.HttpReply.{HttpReply}
 use Rattle.cat_http.specs.Errors.{error_body}
@@ -63,9 +64,10 @@ abbrev pub answer_allow : Answer → List (List ℕ)
 answer_allow (Refused r) = allowed r
 answer_allow _ = []
 
--- a reply ends the connection where the message does, and to a HEAD it has no body
+-- a reply ends the connection where the message does, to a HEAD it has no body, and it goes to a browser where the message comes from one
 abbrev pub reply_with : Message → Status → Content → List ℕ → List (List ℕ) → HttpReply
-reply_with m told content body allow = record { status = told; content = content; body = body; allow = allow; close = m.last; bare = bytes_eq m.method (codes "HEAD") }
+reply_with m told content body allow =
+    record { status = told; content = content; body = body; allow = allow; close = m.last; bare = bytes_eq m.method (codes "HEAD"); browser = is_from_browser m }
 
 -- the reply to a message
 abbrev pub reply_to : Message → Answer → HttpReply

@@ -16,7 +16,7 @@ use Rattle.cat_replies.specs.Events.{counter_text}
 use Rattle.cat_requests.specs.declared.refusal.Methods.{Methods}
 use Rattle.cat_requests.specs.declared.refusal.Methods.TheVariants as methods
 use Rattle.cat_requests.specs.declared.refusal.Refusal.{Refusal}
-use Rattle.cat_requests.specs.declared.refusal.Refusal.TheVariants.{Route, Method, Entity, Shelf, Name, Text, Reference, Input, Query, Facet, Place, Gone, Ahead, OldSerial, TooLarge, Spent, CutByCounter, CutByMemory, CutByKeeper, SpentFeed, Reply, Keeper, NoMemory}
+use Rattle.cat_requests.specs.declared.refusal.Refusal.TheVariants.{Origin, Route, Method, Entity, Shelf, Name, Text, Reference, Input, Query, Facet, Place, Gone, Ahead, OldSerial, TooLarge, Spent, CutByCounter, CutByMemory, CutByKeeper, SpentFeed, Reply, Keeper, NoMemory}
 
 -- the methods of a path
 abbrev pub methods_of : Methods → List (List ℕ)
@@ -32,6 +32,7 @@ allowed _ = []
 
 -- the status of a refusal
 abbrev pub status_of : Refusal → Status
+status_of Origin = status.Forbidden
 status_of Route = status.NotFound
 status_of (Method ms) = status.MethodNotAllowed
 status_of Entity = status.NotFound
@@ -82,6 +83,7 @@ query_words query.NoMemory = codes "memory" ∷ []
 
 -- the words of a refusal, with the numbers that they tell
 abbrev pub words_of : Refusal → List (List ℕ)
+words_of Origin = codes "origin" ∷ []
 words_of Route = codes "route" ∷ []
 words_of (Method ms) = codes "method" ∷ []
 words_of Entity = codes "entity" ∷ []

@@ -1,5 +1,6 @@
 -- What a message asks for, or why it is refused.
-use Rattle.std.specs.Prelude.{⊤, IsTrue, ℕ, List, [], ◌∷◌, ◌++◌, Option, None, Some, Result, Ok, Err, bytes_eq, codes, ◌||◌, if◌then◌else◌}
+use Rattle.std.specs.Prelude.{⊤, IsTrue, ℕ, Bool, true, false, List, [], ◌∷◌, ◌++◌, Option, None, Some, Result, Ok, Err, bytes_eq, codes, ◌||◌, if◌then◌else◌}
+use Rattle.cat_access.specs.Browser.{is_admitted, no_access}
 use Rattle.cat_types.specs.Names.{is_name, is_shelf_name}
 use Rattle.cat_types.specs.Reference.{parsed}
 use Rattle.cat_types.specs.declared.fault.RefFault.{RefFault}
@@ -29,7 +30,7 @@ use Rattle.cat_requests.specs.declared.path.Resource.{Resource}
 use Rattle.cat_requests.specs.declared.path.Resource.TheVariants as resource
 use Rattle.cat_requests.specs.declared.refusal.Methods.TheVariants.{Reads, ReadsAndDeletes, Posts, PutsAndDeletes}
 use Rattle.cat_requests.specs.declared.refusal.Refusal.{Refusal}
-use Rattle.cat_requests.specs.declared.refusal.Refusal.TheVariants.{Route, Method, Entity, Name, Text, Place}
+use Rattle.cat_requests.specs.declared.refusal.Refusal.TheVariants.{Origin, Route, Method, Entity, Name, Text, Place}
 use Rattle.cat_requests.specs.declared.request.Request.{Request}
 use Rattle.cat_requests.specs.declared.request.Request.TheVariants as request
 use Rattle.cat_requests.specs.declared.request.Verb.{Verb}
@@ -225,9 +226,14 @@ abbrev pub requested : Result Resource Refusal → Message → Result Request Re
 requested (Ok r) m = resource_asked r (verb_of m.method) m
 requested (Err refusal) m = Err refusal
 
+-- What a message asks for where it is admitted, and otherwise the refusal of its sender.
+abbrev pub admitted : Bool → Message → Result Request Refusal
+admitted true m = requested (resource_of m.path) m
+admitted false m = Err Origin
+
 -- what a message asks for, or the first refusal that holds
 unfoldable pub request_of : Message → Result Request Refusal
-request_of m = requested (resource_of m.path) m
+request_of m = admitted (is_admitted no_access m) m
 
 -- ---- what holds of every request
 

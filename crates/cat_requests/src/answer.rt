@@ -9,6 +9,7 @@ ghost use Rattle.cat_requests.specs.Answers as spec;
 ghost use Rattle.cat_requests.specs.Refusals.{allowed, input_words, methods_of, query_words, status_of, words_of};
 
 use crate::refusal::{Methods, Refusal};
+use cat_access::browser::is_from_browser;
 use cat_feed::change::Since;
 use cat_http::body::{Bytes, Texts};
 use cat_http::content::Content;
@@ -192,6 +193,7 @@ fn push_refusal(out: &mut Vec<u8>, refusal: Refusal) -> Result<(), AllocError>
     ensures room { spec.IsShortRefusal refusal → vec_len out.old + 160 ≤ vec_capacity out.old → IsOk result }
 {
     match refusal {
+        Refusal::Origin => push_words(out, Status::Forbidden, "origin"),
         Refusal::Route => push_words(out, Status::NotFound, "route"),
         Refusal::Method(_) => push_words(out, Status::MethodNotAllowed, "method"),
         Refusal::Entity => push_words(out, Status::NotFound, "entity"),
@@ -285,6 +287,7 @@ fn status(refusal: Refusal) -> Status
     ensures { result ≡ status_of refusal }
 {
     match refusal {
+        Refusal::Origin => Status::Forbidden,
         Refusal::Route | Refusal::Entity | Refusal::Shelf => Status::NotFound,
         Refusal::Method(_) => Status::MethodNotAllowed,
         Refusal::Name
@@ -353,6 +356,7 @@ fn reply_with(
         allow,
         close: message.last,
         bare: message.method.as_str() == "HEAD",
+        browser: is_from_browser(message),
     }
 }
 

@@ -24,6 +24,8 @@ pub enum Methods {
 /// Why a request is refused.
 #[derive(Clone, Copy, Drop)]
 pub enum Refusal {
+    /// A browser sends the message, and its page may not ask this here.
+    Origin,
     /// No path fits, or a piece of the path is no text.
     Route,
     /// The path has other methods.

@@ -9,6 +9,8 @@ use crate::path::{Resource, resource_of};
 use crate::refusal::{Methods, Refusal, input_refusal, query_refusal};
 use crate::routes::{Fixed, Routes};
 use crate::uid::number_of_uid;
+use cat_access::access::Access;
+use cat_access::browser::is_admitted;
 use cat_feed::change::Since;
 use cat_feed::place::since_of;
 use cat_http::message::Message;
@@ -321,13 +323,16 @@ fn asked(
     }
 }
 
-/// What a message asks for, or the first refusal that holds: of its path, its method, and what the request takes.
+/// What a message asks for, or the first refusal that holds: of its sender, its path, its method, and what the request takes.
 #[tactic(auto, unfolding(crate::specs::Requests::request_of))]
 pub fn request_of(alloc: Global, routes: &Routes, message: &Message) -> Result<Request, Refusal>
     ensures ok { IfOk result (λ r. spec.request_of message.now ≡ Ok r) }
     ensures err { IfErr result (λ e. (spec.request_of message.now ≡ Err e) ⊎ (e ≡ Refusal.NoMemory)) }
     ensures ready { IfOk result spec.IsReady }
 {
+    if !is_admitted(&Access::none(alloc), message) {
+        return Err(Refusal::Origin);
+    }
     let resource = resource_of(alloc, routes, message.path.as_str())?;
     asked(alloc, resource, verb_of(message.method.as_str()), message)
 }
