@@ -38,5 +38,5 @@ verdict_by (Some Read) true = Refused
 verdict_by (Some Read) false = Granted
 
 -- whether a message is let in that brings this field, and may change something or not
-unfoldable pub verdict : List Token → Field → Bool → Verdict
-verdict tokens authorization changes = verdict_by (right_in tokens (bearer authorization)) changes
+unfoldable pub verdict_of : List Token → Field → Bool → Verdict
+verdict_of tokens authorization changes = verdict_by (right_in tokens (bearer authorization)) changes

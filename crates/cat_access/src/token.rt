@@ -139,9 +139,9 @@ fn right_in(tokens: &[Token], authorization: &Field) -> Option<Right>
 }
 
 /// Whether a message is let in that brings this field `Authorization`, and may change something or not, where these are the tokens.
-#[tactic(auto, unfolding(crate::specs::Tokens::verdict))]
-pub fn verdict(tokens: &Tokens, authorization: &Field, changes: bool) -> Verdict
-    ensures { result ≡ spec.verdict tokens.now authorization.now changes }
+#[tactic(auto, unfolding(crate::specs::Tokens::verdict_of))]
+pub fn decide(tokens: &Tokens, authorization: &Field, changes: bool) -> Verdict
+    ensures { result ≡ spec.verdict_of tokens.now authorization.now changes }
 {
     verdict_by(right_in(tokens.as_slice(), authorization), changes)
 }
