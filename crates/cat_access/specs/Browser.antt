@@ -1,5 +1,5 @@
 -- What browsers may ask.
-use Rattle.std.specs.Prelude.{ℕ, Bool, true, false, ◌&&◌, ◌||◌, List, [], length, take, drop, ◌==◌, nat_eq, codes, bytes_eq, if◌then◌else◌}
+use Rattle.std.specs.Prelude.{ℕ, Bool, true, false, ◌&&◌, ◌||◌, not, List, [], length, take, drop, ◌==◌, nat_eq, codes, bytes_eq, if◌then◌else◌}
 use Rattle.std.specs.Char.{is_ascii_digit}
 use Rattle.std.specs.List.{list_all, list_any, before_first, starts_with}
 use Rattle.cat_http.specs.Head.{same_but_case}
