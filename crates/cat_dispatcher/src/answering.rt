@@ -1,14 +1,13 @@
 //! A server that answers the messages of its connections.
 ghost use Rattle.std.specs.Prelude.{◌≡◌};
-ghost use Rattle.cat_dispatcher.specs.Answered.{Answered};
-ghost use Rattle.cat_connection.specs.Runs.{AnswersItems};
+ghost use Rattle.cat_pieces.specs.Replies.{Replies};
 
-use cat_connection::{Machine, connection};
-use cat_io::{Sink, Source};
-use cat_listener::Server;
+use cat_connection::Machine;
+use cat_listener::{Server, Step};
+use cat_pieces::next_step;
 use std::alloc::Global;
 
-/// A machine that answers the messages of one connection after another.
+/// A machine that answers the messages of its connections, one after another.
 #[derive(Drop)]
 pub struct Answering<M> {
     alloc: Global,
@@ -32,9 +31,9 @@ impl<M: Machine> Answering<M> {
 }
 
 impl<M: Machine> Server for Answering<M> {
-    ghost serves = { λ old x new. Answered (AnswersItems M.answers M.lacks) old.machine x new.machine };
+    ghost answers = { λ old bytes step new. Replies M.answers M.lacks old.machine bytes step new.machine };
 
-    fn serve<S: Source, O: Sink>(&mut self, source: &mut S, sink: &mut O) {
-        let _end = connection(self.alloc, &mut self.machine, source, sink);
+    fn answer(&mut self, bytes: &[u8]) -> Step {
+        next_step(self.alloc, &mut self.machine, bytes)
     }
 }

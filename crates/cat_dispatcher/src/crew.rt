@@ -29,7 +29,7 @@ const HISTORY: Limits = Limits {
 /// How many serve and work at once.
 #[derive(Clone, Copy, Debug, PartialEq, Eq)]
 pub struct Crew {
-    /// How many connections are served at once.
+    /// How many connections are answered at once. Those that wait aren't counted.
     pub connections: u64,
     /// How many pairs of workers there are: one of each pair works orders, and the other one documents.
     pub workers: u64,
@@ -140,11 +140,11 @@ fn host_under<
     };
     let shares = shares(rt, alloc, &turns, pass, crew.helpers())?;
     let mut helpers = helpers(alloc, layers, crew, shares)?;
-    Ok(serve(rt, doors, helpers.as_mut_slice()))
+    Ok(serve(rt, alloc, doors, helpers.as_mut_slice()))
 }
 
-/// Serves a catalogue over doors that listen, until they let in no more: so many connections at once, and so many pairs of workers beside
-/// them, all over one book. Orders are worked by `layers`, while others have the book. A catalogue that a store keeps is one whose changes are kept
+/// Serves a catalogue over doors that listen, until they let in no more: so many connections are answered at once, and so many pairs of workers run
+/// beside them, all over one book. Orders are worked by `layers`, while others have the book. A catalogue that a store keeps is one whose changes are kept
 /// before they are answered.
 ///
 /// The only error is want of memory for the book and the helpers; no connection was let in then. A connection that fails ends alone.

@@ -2,5 +2,6 @@ pub mod Doors
 pub mod Memory
 pub mod Counted
 pub mod Hall
-pub mod Exchange
+pub mod Step
+pub mod Turn
 pub mod Helpers

@@ -56,4 +56,20 @@ impl<D: Doors + Drop> Doors for CountedDoors<D> {
         }
         accepted
     }
+
+    fn wait(&mut self) -> Option<u64>
+        ensures later { D.faults self.old.doors ≤ D.faults self.new.doors }
+        ensures same { closed_by self.new.left (D.closed self.new.doors) ≡ closed_by self.old.left (D.closed self.old.doors) }
+        ensures left { self.new.left ≡ self.old.left }
+    {
+        self.doors.wait()
+    }
+
+    fn moment(&mut self) -> u64
+        ensures later { D.faults self.old.doors ≤ D.faults self.new.doors }
+        ensures same { closed_by self.new.left (D.closed self.new.doors) ≡ closed_by self.old.left (D.closed self.old.doors) }
+        ensures left { self.new.left ≡ self.old.left }
+    {
+        self.doors.moment()
+    }
 }

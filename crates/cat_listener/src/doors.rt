@@ -5,7 +5,7 @@ ghost use Rattle.std.specs.declared.option.Option.{Option};
 ghost use Rattle.cat_io.specs.Causes.{Rose};
 ghost use Rattle.cat_listener.specs.Doors.{Admits, HasFailed, StayClosed};
 
-use cat_io::{Sink, Source};
+use crate::ends::{PromptSink, PromptSource};
 
 /// What came of listening.
 #[derive(Clone, Copy, Debug, PartialEq, Eq)]
@@ -21,6 +21,12 @@ pub enum Listened {
 pub enum Accepted<T> {
     /// A connection came.
     Conn(T),
+    /// The connection that waits under this number may go on.
+    Ready(u64),
+    /// Nothing came for a while.
+    Rest,
+    /// The system has no file or no memory for a connection that came. It is asked again.
+    Short,
     /// The doors have closed: no more connections come.
     Closed,
     /// The doors failed: they counted a fault.
@@ -28,13 +34,13 @@ pub enum Accepted<T> {
 }
 
 /// A connection, which has two ends: a source of what its peer sends, and a sink of what its peer is sent. So what the one end tells doesn't
-/// hang on what is done with the other.
+/// hang on what is done with the other. Ends that can say that they would have to wait are watched by the doors meanwhile.
 pub trait Connection {
     /// What the peer sends.
-    type Source: Source + Drop + Send;
+    type Source: PromptSource + Drop + Send;
 
     /// What the peer is sent.
-    type Sink: Sink + Drop + Send;
+    type Sink: PromptSink + Drop + Send;
 
     ghost source: { Self → Self.Source };
 
@@ -64,7 +70,7 @@ pub trait Doors {
         ensures cause { result ≡ Listened.Failed → Rose (faults self.old) (faults self.new) }
         ensures stay { StayClosed (closed self.old) (closed self.new) };
 
-    /// Waits for the next connection.
+    /// Waits, for a while at most, for the next connection, or until one of those that wait may go on.
     ///
     /// A connection comes only from doors that haven't closed, and `Closed` only from doors that have. The count of faults
     /// never falls, and `Failed` comes only where it rose in this call, or stands at the last value of a u64.
@@ -73,4 +79,20 @@ pub trait Doors {
         ensures later { faults self.old ≤ faults self.new }
         ensures cause { HasFailed result → Rose (faults self.old) (faults self.new) }
         ensures stay { StayClosed (closed self.old) (closed self.new) };
+
+    /// Waits, for a while at most, until one of the connections that wait may go on, and lets none in.
+    fn wait(&mut self) -> Option<u64>
+        ensures later { faults self.old ≤ faults self.new }
+        ensures same { closed self.new ≡ closed self.old }
+    {
+        None
+    }
+
+    /// The moment, in milliseconds since a start of the doors' own.
+    fn moment(&mut self) -> u64
+        ensures later { faults self.old ≤ faults self.new }
+        ensures same { closed self.new ≡ closed self.old }
+    {
+        0
+    }
 }

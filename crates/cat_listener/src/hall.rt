@@ -20,6 +20,19 @@ pub enum Ended {
     Failed,
 }
 
+/// What comes to be served next.
+#[derive(Drop)]
+pub enum Comes<T> {
+    /// A connection came.
+    Conn(T),
+    /// The connection that waits under this number may go on.
+    Ready(u64),
+    /// Nothing came for a while.
+    Rest,
+    /// The system has no file or no memory for a connection that came.
+    Short,
+}
+
 /// Which doors are shared, and what their count of faults was. Each sharing picks both.
 pub trait Named {
     ghost doors: { GName };
@@ -44,16 +57,20 @@ pub struct Hall<'a, D: Doors, N: Named> {
 }
 
 impl<'a, D: Doors, N: Named> Hall<'a, D, N> {
-    /// The next connection, or why there is none. Doors that have said that are asked no more.
-    pub fn next(&mut self) -> Result<D::Conn, Ended>
+    /// What comes next, or why nothing does. Doors that have said that they let in no more are asked only for the connections that wait, where
+    /// some do and the doors haven't failed.
+    pub fn next(&mut self, some_wait: bool) -> Result<Comes<D::Conn>, Ended>
         ensures name { self.new.doors.ghost_name ≡ self.old.doors.ghost_name }
         ensures cause { IfErr result (λ ended. HasCause ended N.faults (D.faults self.new.doors.now) (D.closed self.new.doors.now)) }
     {
         if let Some(ended) = self.ended {
-            return Err(ended);
+            return self.after_end(ended, some_wait);
         }
         match self.doors.accept() {
-            Accepted::Conn(conn) => Ok(conn),
+            Accepted::Conn(conn) => Ok(Comes::Conn(conn)),
+            Accepted::Ready(number) => Ok(Comes::Ready(number)),
+            Accepted::Rest => Ok(Comes::Rest),
+            Accepted::Short => Ok(Comes::Short),
             Accepted::Closed => {
                 self.ended = Some(Ended::Closed);
                 Err(Ended::Closed)
@@ -63,6 +80,35 @@ impl<'a, D: Doors, N: Named> Hall<'a, D, N> {
                 Err(Ended::Failed)
             }
         }
+    }
+
+    // What comes of doors that have said that they let in no more.
+    fn after_end(&mut self, ended: Ended, some_wait: bool) -> Result<Comes<D::Conn>, Ended>
+        requires { self.old.ended ≡ Some ended }
+        ensures name { self.new.doors.ghost_name ≡ self.old.doors.ghost_name }
+        ensures cause { IfErr result (λ ended. HasCause ended N.faults (D.faults self.new.doors.now) (D.closed self.new.doors.now)) }
+    {
+        match ended {
+            Ended::Closed if some_wait => Ok(self.wait()),
+            _ => Err(ended),
+        }
+    }
+
+    // One of those that wait.
+    fn wait(&mut self) -> Comes<D::Conn>
+        ensures name { self.new.doors.ghost_name ≡ self.old.doors.ghost_name }
+    {
+        match self.doors.wait() {
+            Some(number) => Comes::Ready(number),
+            None => Comes::Rest,
+        }
+    }
+
+    /// The moment of the doors.
+    pub fn moment(&mut self) -> u64
+        ensures name { self.new.doors.ghost_name ≡ self.old.doors.ghost_name }
+    {
+        self.doors.moment()
     }
 }
 

@@ -1,19 +1,22 @@
 //! What serves connections, and what works beside them.
 
-ghost use Rattle.cat_listener.specs.Exchange.{Exchange, exchange};
+ghost use Rattle.std.specs.Prelude.{ℕ, List, length};
+ghost use Rattle.cat_listener.specs.Step.{IsWithin};
+ghost use Rattle.cat_listener.specs.declared.step.Step.{Step as Seen};
 
 use crate::running::Running;
-use cat_io::{Sink, Source};
+use crate::step::Step;
 use std::sync::Wait;
 
-/// What serves one connection after another, seen by what a connection does to it.
+/// What serves connections, message by message, seen by what the bytes of one do to it.
 pub trait Server {
-    // A connection leads from the first state to the second one.
-    ghost serves: { Self → Exchange → Self → Type 0 };
+    // From the first server, the bytes and what it makes of them lead to the second one.
+    ghost answers: { Self → List ℕ → Seen → Self → Type 0 };
 
-    /// Serves a connection to its end, whichever that is.
-    fn serve<S: Source, O: Sink>(&mut self, source: &mut S, sink: &mut O)
-        ensures { serves self.old (exchange (S.left source.old) (S.left source.new) (O.written sink.old) (O.written sink.new)) self.new };
+    /// Answers the message at the front of the bytes, if a whole one stands there.
+    fn answer(&mut self, bytes: &[u8]) -> Step
+        ensures answers { answers self.old bytes.now result self.new }
+        ensures within { IsWithin (length bytes.now) result };
 }
 
 /// What works beside the connections, seen by what its work does to it.
@@ -29,7 +32,7 @@ pub trait Worker {
 /// One of those that serve and work beside each other.
 #[derive(Drop)]
 pub enum Helper<S, W> {
-    /// Lets connections in, and serves one after another.
+    /// Lets connections in, and serves them.
     Serves(S),
     /// Works beside them.
     Works(W),

@@ -15,22 +15,33 @@
 //! It stands on cat_io for the ends of a connection, and on std.
 #![tactic(auto)]
 
+mod buffers;
 mod counted;
 mod doors;
+mod ends;
 mod hall;
 mod helper;
 mod host;
+mod laws;
 mod memory;
+mod patience;
+mod room;
 mod running;
 mod serving;
+mod step;
 mod tcp;
+mod turn;
+mod visit;
 
 pub use counted::CountedDoors;
 pub use doors::{Accepted, Connection, Doors, Listened};
-pub use hall::{Ended, Hall, Named};
+pub use ends::{PromptSink, PromptSource, Watched, Wish};
+pub use hall::{Comes, Ended, Hall, Named};
 pub use helper::{Helper, Server, Worker};
 pub use host::HostClock;
+pub use laws::turns_are_one;
 pub use memory::{MemoryConn, MemoryDoors};
 pub use running::Running;
 pub use serving::serve;
+pub use step::{Part, Step, Text};
 pub use tcp::{TcpConn, TcpDoors};

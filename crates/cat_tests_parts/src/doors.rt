@@ -48,6 +48,7 @@ fn accepted<D: Doors>(doors: &mut D) -> u8 {
         Accepted::Conn(conn) => first_byte(conn),
         Accepted::Closed => b'.',
         Accepted::Failed => b'!',
+        Accepted::Ready(_) | Accepted::Rest | Accepted::Short => b'?',
     }
 }
 
@@ -196,7 +197,7 @@ fn let_in<D: Doors>(
 #[test]
 fn connections_come_over_the_network(rt: HostRuntime) -> Result<(), Fail> {
     let port = free_port(&rt)?;
-    let mut doors = TcpDoors::new(&rt);
+    let mut doors = TcpDoors::new(&rt, rt.alloc());
     assert_eq!(rt;
         listened(rt.alloc(), &mut doors, port)?,
         (b'!', [Listened::Failed, Listened::Ready])

@@ -2,8 +2,7 @@
 ghost use Rattle.std.specs.Prelude.{⊤};
 
 use crate::doors::in_memory;
-use cat_io::{ReadAnswer, Sink, Source, WriteAnswer};
-use cat_listener::{Ended, Helper, MemoryDoors, Running, Server, Worker, serve};
+use cat_listener::{Ended, Helper, MemoryDoors, Part, Running, Server, Step, Text, Worker, serve};
 use std::alloc::{AllocError, Global};
 use std::sync::Wait;
 use std::sync::atomic::{AtomicU64, Ordering};
@@ -12,7 +11,7 @@ use std::thread::{Threads, yield_now};
 /// How often a server looks for another one before it gives up.
 const MOST_LOOKS: u64 = 1_000_000;
 
-/// Sends back one byte of each connection, and counts those for which it could. It tells each to all, and waits for others to be told.
+/// Greets each connection once its byte has come, and counts them. It tells each to all, and waits for others to be told.
 #[derive(Drop)]
 struct Greeter<'a> {
     greeted: u64,
@@ -37,19 +36,18 @@ impl<'a> Greeter<'a> {
 impl<'a> Server for Greeter<'a> {
     ghost use Rattle.std.specs.Prelude.{⊤};
 
-    ghost serves = { λ _ _ _. ⊤ };
+    ghost answers = { λ _ _ _ _. ⊤ };
 
-    fn serve<S: Source, O: Sink>(&mut self, source: &mut S, sink: &mut O) {
+    fn answer(&mut self, bytes: &[u8]) -> Step {
+        if bytes.is_empty() {
+            return Step::More(0, Part::Head);
+        }
         self.came.fetch_add(1, Ordering::SeqCst);
         if !self.meets() {
             self.met = false;
         }
-        let mut byte = [0];
-        if let ReadAnswer::Read(1) = source.read(&mut byte) {
-            if let WriteAnswer::Wrote(1) = sink.write(&byte) {
-                self.greeted = self.greeted.saturating_add(1);
-            }
-        }
+        self.greeted = self.greeted.saturating_add(1);
+        Step::Last(Text::Fixed(b"!"))
     }
 }
 
@@ -121,7 +119,7 @@ fn served<R: Threads + Wait + Sync>(
     let mut helpers = Vec::new(alloc);
     push_greeters(&mut helpers, &came, servers, awaited)?;
     helpers.push(Helper::Works(Idler { ended: false }))?;
-    let ended = serve(rt, doors, helpers.as_mut_slice());
+    let ended = serve(rt, alloc, doors, helpers.as_mut_slice());
     Ok((ended, greeted(helpers.as_slice())))
 }
 

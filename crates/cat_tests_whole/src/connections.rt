@@ -7,7 +7,7 @@ use cat_keeper::keeper::{Committed, Keeper, Loaded, Place};
 use cat_keeper::memory::MemoryKeeper;
 use cat_keeper::rows::Batch;
 use cat_keeper::table::Table;
-use cat_listener::{Accepted, Connection, Doors, Listened};
+use cat_listener::{Accepted, Connection, Doors, Listened, PromptSink, PromptSource};
 use cat_server::run_server;
 use cat_tree::text::Text;
 use std::alloc::Global;
@@ -118,6 +118,10 @@ impl<'a> Sink for Hearing<'a> {
         WriteAnswer::Wrote(piece.len() as u64)
     }
 }
+
+impl<'a> PromptSource for Asking<'a> {}
+
+impl<'a> PromptSink for Hearing<'a> {}
 
 #[derive(Drop)]
 struct Talk<'a> {

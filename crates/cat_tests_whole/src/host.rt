@@ -112,7 +112,7 @@ fn workers_end_once_the_servers_have(rt: HostRuntime) -> Result<(), Fail> {
     let layers = ();
     let mut helpers = helpers(alloc, &layers)?;
     assert_eq!(rt;
-        serve(&rt, &mut doors, helpers.as_mut_slice()),
+        serve(&rt, alloc, &mut doors, helpers.as_mut_slice()),
         Ended::Closed
     );
     let mut answered = 0u64;

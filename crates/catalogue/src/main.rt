@@ -32,7 +32,7 @@ fn main(rt: HostRuntime) -> ExitCode {
         Ok(words) => {
             let mut source = StdSource::new(rt.stdin());
             let mut sink = StdSink::new(rt.stdout());
-            let mut doors = TcpDoors::new(&rt);
+            let mut doors = TcpDoors::new(&rt, rt.alloc());
             run(
                 &rt,
                 rt.alloc(),

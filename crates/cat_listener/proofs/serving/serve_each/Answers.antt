@@ -1,5 +1,5 @@
-use Rattle.cat_listener.proofs.Leading.{led_on}
+use Rattle.cat_listener.proofs.Leading.{led_then}
 use Rattle.cat_listener.proofs.serving.serve_each.Goals as goal
 
 pub loop-preserved : goal.loop-preserved
-loop-preserved g c = led_on g.S.Server.serves _ _ _ c.loop.invariant c.serve_one.ensures
+loop-preserved g c = led_then g.S.Server.answers _ _ _ c.loop.invariant c.serve_one.ensures

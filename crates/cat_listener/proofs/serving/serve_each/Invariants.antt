@@ -2,4 +2,4 @@ use Rattle.cat_listener.specs.Helpers.{IsLed}
 use Rattle.cat_listener.proofs.serving.serve_each.Given as goal
 
 abbrev pub invariant-loop : goal.invariant-loop
-invariant-loop g l = IsLed g.S.Server.serves l.fn.server l.server
+invariant-loop g l = IsLed g.S.Server.answers l.fn.server l.server

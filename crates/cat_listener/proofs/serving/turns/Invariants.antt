@@ -1,0 +1,5 @@
+use Rattle.cat_listener.specs.Helpers.{IsLed}
+use Rattle.cat_listener.proofs.serving.turns.Given as goal
+
+abbrev pub invariant-loop : goal.invariant-loop
+invariant-loop g l = IsLed g.S.Server.answers l.fn.server l.server
