@@ -60,7 +60,7 @@ sted or left over</li>\n\
 \x20   <p>Bring something in, and it appears here by itself. In a folder of the catalogue's sources:</p>\n\
 \x20   <pre tabindex=\"0\">curl -d @examples/owners.json <span class=\"origin\"></span>/providers/git/full</pre>\n\
 \x20   <p>A provider gives all its entities in one message, and the next one replaces them.\n\
-\x20     Files in YAML come in by <code>PUT /shelf</code>; docs/REFERENCE.md says how.</p>\n\
+\x20     Files in YAML come in by <code>PUT /shelf</code>; docs/HTTP.md says how.</p>\n\
 \x20 </section>\n\
 </template>\n\
 \n\
@@ -169,7 +169,6 @@ const listeners = new Set();\n\
 let place;\n\
 let waiting;\n\
 \n\
-// Calls a listener at changes, until the answer is called.\n\
 export function listen(listener) {\n\
 \x20 listeners.add(listener);\n\
 \x20 return () => listeners.delete(listener);\n\
@@ -272,7 +271,6 @@ pub(crate) const DOM_JS: &[u8] =
 \n\
 export const find = (id) => document.getElementById(id);\n\
 \n\
-// A copy of a template of the document.\n\
 export const ready = (id) => find(id).content.cloneNode(true);\n\
 \n\
 const maker = (space) => (tag, ...rest) => {\n\
@@ -316,7 +314,6 @@ export const counted = (n, one, many = `${one}s`) => `${number(n)} ${n === 1 ? o
 \n\
 export const section = (title, ...children) => h(\"section\", h(\"h2\", title), children);\n\
 \n\
-// A list of which 50 are shown, with buttons to the others.\n\
 export function paged(label, list, item) {\n\
 \x20 const box = h(\"div.paged\");\n\
 \x20 const draw = (first) => {\n\
@@ -422,7 +419,6 @@ const TABS = {\n\
 \x20 JSON: (ref, entity) => h(\"pre\", { tabindex: 0 }, JSON.stringify(entity, null, 2)),\n\
 };\n\
 \n\
-// The entity that was read last.\n\
 let read = {};\n\
 \n\
 // Shows the entity of an address, or why it has no document.\n\
@@ -566,7 +562,6 @@ class Graph {\n\
 \x20   return isNew;\n\
 \x20 }\n\
 \n\
-\x20 // Takes in what is so many steps away.\n\
 \x20 async grow(front, steps) {\n\
 \x20   const found = await around(front);\n\
 \x20   const next = front.flatMap((ref, i) => {\n\
@@ -760,7 +755,6 @@ ll;\n\
 \x20 return main.querySelector(\":focus:not(h1)\") ?? scrollTo(0, 0);\n\
 }\n\
 \n\
-// What is typed becomes the address at once.\n\
 field.addEventListener(\"input\", () => {\n\
 \x20 const { name, options } = here();\n\
 \x20 const next = addressOf({ ...queryOf(name ? new URLSearchParams() : options), q: field.value, page: 1 });\n\
@@ -913,8 +907,7 @@ export function addressOf({ q, chosen, order, page }) {\n\
 }\n\
 \n\
 export function toggled(query, facet, value) {\n\
-\x20 const values = new Set(query.chosen.get(facet));\n\
-\x20 if (!values.delete(value)) values.add(value);\n\
+\x20 const values = new Set(query.chosen.get(facet)).symmetricDifference(new Set([value]));\n\
 \x20 return { ...query, chosen: new Map(query.chosen).set(facet, values), page: 1 };\n\
 }\n\
 \n\
@@ -924,13 +917,20 @@ const compared = (a, b) => (a < b ? -1 : a > b ? 1 : 0);\n\
 \n\
 const sorted = { version: -1, orders: {} };\n\
 \n\
-// All rows in an order, kept until something changes.\n\
+// All rows in an order, kept until something changes. What has no value comes last.\n\
 function rowsBy(order, rows, version) {\n\
-\x20 if (sorted.version !== version) Object.assign(sorted, { version, orders: {} });\n\
-\x20 const key = [\"best\", \"name\"].includes(order) ? \"label\" : order;\n\
-\x20 sorted.orders[key] ??= [...rows.values()].sort((a, b) => compared(!a[key], !b[key]) || compared(a[key], b[key]) || compared(a.label, b.lab\
-el));\n\
-\x20 return sorted.orders[key];\n\
+\x20 if (sorted.version !== version) {\n\
+\x20   const old = (sorted.orders.name ?? []).filter((row) => rows.get(row.ref) === row);\n\
+\x20   const names = [...old, ...[...rows.values()].filter((row) => !row.isOld)].sort((a, b) => compared(a.label, b.label));\n\
+\x20   for (const row of names) row.isOld = true;\n\
+\x20   Object.assign(sorted, { version, orders: { name: names, best: names } });\n\
+\x20 }\n\
+\x20 if (!sorted.orders[order]) {\n\
+\x20   const groups = Map.groupBy(sorted.orders.name, (row) => row[order] ?? \"\");\n\
+\x20   const values = [...groups.keys()].sort((a, b) => compared(!a, !b) || compared(a, b));\n\
+\x20   sorted.orders[order] = values.flatMap((value) => groups.get(value));\n\
+\x20 }\n\
+\x20 return sorted.orders[order];\n\
 }\n\
 \n\
 // First those whose own names fit a phrase best.\n\
@@ -962,7 +962,6 @@ export function search({ q, chosen, order }, rows, version) {\n\
 \x20 return { matches: order === \"best\" && phrase ? ranked(matches, phrase) : matches, counts };\n\
 }\n\
 \n\
-// The values that most have, with their numbers.\n\
 export const foremost = (counts, most) => [...counts].sort((a, b) => b[1] - a[1] || compared(a[0], b[0])).slice(0, most);\n\
 ";
 
@@ -1043,7 +1042,6 @@ export const post = async (path, body, reviver) => JSON.parse(await ask(path, { 
 export const exact = (key, value, context) =>\n\
 \x20 (typeof value === \"number\" && !Number.isSafeInteger(value) && JSON.rawJSON ? JSON.rawJSON(context.source) : value);\n\
 \n\
-// The relations of some entities.\n\
 export const around = async (entityRefs) => (await post(\"/entities/by-refs\", { entityRefs, fields: [\"relations\"] })).items;\n\
 ";
 
@@ -1327,8 +1325,8 @@ marker path { fill: var(--quiet); }\n\
 \n\
 /* the state */\n\
 .counts {\n\
-\x20 display: grid;\n\
-\x20 grid-template-columns: repeat(auto-fit, minmax(9rem, 1fr));\n\
+\x20 display: flex;\n\
+\x20 flex-wrap: wrap;\n\
 \x20 gap: 1px;\n\
 \x20 margin-top: 1.25rem;\n\
 \x20 background: var(--line);\n\
@@ -1336,14 +1334,14 @@ marker path { fill: var(--quiet); }\n\
 \x20 border-radius: 10px;\n\
 \x20 overflow: hidden;\n\
 }\n\
-.counts div { display: flex; flex-direction: column-reverse; padding: 0.8rem 1.1rem; background: var(--surface); }\n\
+.counts div { flex: 1 0 9rem; display: flex; flex-direction: column-reverse; padding: 0.8rem 1.1rem; background: var(--surface); }\n\
 .counts dd { font-size: 1.5rem; font-weight: 650; font-variant-numeric: tabular-nums; }\n\
 .counts dt { font-size: 0.875rem; color: var(--quiet); }\n\
 time { color: var(--quiet); font-variant-numeric: tabular-nums; font-size: 0.875rem; }\n\
 \n\
 /* the token */\n\
-dialog { max-width: 26rem; padding: 1.5rem; color: var(--text); background: var(--surface); border: 1px solid var(--line); border-radius: 12\
-px; }\n\
+dialog { max-width: min(26rem, calc(100vw - 2rem)); padding: 1.5rem; color: var(--text); background: var(--surface); border: 1px solid var(-\
+-line); border-radius: 12px; }\n\
 dialog::backdrop { background: rgb(0 0 0 / 0.4); }\n\
 dialog p { margin-bottom: 0.9rem; }\n\
 dialog input {\n\

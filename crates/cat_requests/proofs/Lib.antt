@@ -3,3 +3,4 @@ pub mod Digits
 pub mod Words
 pub mod Routing
 pub mod SentRoutes
+pub mod Files

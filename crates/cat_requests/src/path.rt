@@ -91,17 +91,25 @@ fn named(alloc: Global, route: Route, path: &str) -> Result<Resource, Refusal>
     }
 }
 
-/// What a path names: a file of the page, or what its route says. It is `Route` where no route fits, or where the percent escapes of a piece don't decode to UTF-8.
-#[tactic(auto, unfolding(crate::specs::Paths::resource_of))]
+// What a path with this route names; none is refused.
+fn routed(alloc: Global, route: Option<Route>, path: &str) -> Result<Resource, Refusal>
+    ensures ok { IfOk result (λ r. spec.resource_by route path.now ≡ Ok r) }
+    ensures err { IfErr result (λ e. (spec.resource_by route path.now ≡ Err e) ⊎ (e ≡ Refusal.NoMemory)) }
+{
+    match route {
+        Some(route) => named(alloc, route, path),
+        None => Err(Refusal::Route),
+    }
+}
+
+/// What a path names: a file of the page, or what its route says. It is `Route` where no route fits, or where the percent escapes
+/// of a piece don't decode to UTF-8.
 pub fn resource_of(alloc: Global, routes: &Routes, path: &str) -> Result<Resource, Refusal>
     ensures ok { IfOk result (λ r. spec.resource_of path.now ≡ Ok r) }
     ensures err { IfErr result (λ e. (spec.resource_of path.now ≡ Err e) ⊎ (e ≡ Refusal.NoMemory)) }
 {
-    if let Some(file) = file_at(path.as_bytes()) {
-        return Ok(Resource::Page(file));
-    }
-    match routes.route_of(path) {
-        Some(route) => named(alloc, route, path),
-        None => Err(Refusal::Route),
+    match file_at(path.as_bytes()) {
+        Some(file) => Ok(Resource::Page(file)),
+        None => routed(alloc, routes.route_of(path), path),
     }
 }
