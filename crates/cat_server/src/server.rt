@@ -14,7 +14,7 @@ ghost use Rattle.cat_session_model.specs.Program.{program_settings};
 ghost use Rattle.cat_store.specs.Opened.{IsOpening};
 ghost use Rattle.cat_stored_rows.specs.Stored.{stored, texts_of};
 
-use cat_command_line::{ServerOptions, Serving};
+use cat_command_line::{CatalogueOptions, ServerOptions, Serving};
 use cat_connection::Status;
 use cat_core::catalogue::Catalogue;
 use cat_desk::fed::Fed;
@@ -182,16 +182,17 @@ pub fn run_server<
         catalogue,
         server,
     } = serving;
+    let CatalogueOptions { orphans, place } = catalogue;
     let address = address.as_str();
-    match catalogue.place {
+    match place {
         None => {
-            let orphans = catalogue.orphans.unwrap_or(OrphanRule::Keep);
+            let orphans = orphans.unwrap_or(OrphanRule::Keep);
             Ended {
                 status: run_serve(rt, alloc, address, orphans, server, clock, doors),
                 keeper: Some(keeper),
             }
         }
-        Some(place) => match open(alloc, &Layered, keeper, place, catalogue.orphans, INPUT_LIMIT) {
+        Some(place) => match open(alloc, &Layered, keeper, place, orphans, INPUT_LIMIT) {
             Ok(opened) => Ended {
                 status: serve_opened(rt, alloc, address, server, opened, clock, doors),
                 keeper: None,
