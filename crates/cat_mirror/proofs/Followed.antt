@@ -13,9 +13,9 @@ use Rattle.cat_io.proofs.Cutting.{last_line_some, lines-append, rest_from-append
 use Rattle.cat_io.specs.Lines.{HasNoLf, last_line, lines, rest_from, whole_from, whole_lines}
 use Rattle.cat_feed.specs.Mirror.{empty}
 use Rattle.cat_feed.specs.declared.mirror.Mirror.{Mirror}
-use Rattle.cat_mirror.specs.Answers.{answers, documents_line, mirror_after, mirror_answer, mirror_next, mirror_out}
+use Rattle.cat_mirror.specs.Answers.{answers, documents_line, longest_line, mirror_after, mirror_answer, mirror_next, mirror_out}
 use Rattle.cat_mirror.specs.Following.{AnswersSome, AppendsSome, HasAnswered, HasFollowed, IsBroken, IsCut, IsStopped, IsWhole, Stops}
-use Rattle.cat_mirror.specs.declared.line.TheConstants.{LINE_LIMIT, ROOM}
+use Rattle.cat_mirror.specs.declared.line.TheConstants.{ROOM}
 use Rattle.cat_mirror.specs.declared.lines.Following.{Following}
 use Rattle.cat_mirror.specs.declared.stop.Stop.{Stop}
 use Rattle.cat_mirror.specs.declared.stop.Stop.TheVariants.{ReadFault, WriteFault, Bound, NoMemory}
@@ -41,15 +41,15 @@ record SameLine (a b : List ℕ) : Type 0 where
   answer_is : (m : Mirror) → mirror_answer m a ≡ mirror_answer m b
   next_is : (m : Mirror) → mirror_next m a ≡ mirror_next m b
 
-long_answers : (a b : List ℕ) → LINE_LIMIT < length a → LINE_LIMIT < length b → (m : Mirror) → mirror_answer m a ≡ mirror_answer m b
+long_answers : (a b : List ℕ) → longest_line < length a → longest_line < length b → (m : Mirror) → mirror_answer m a ≡ mirror_answer m b
 unfolding mirror_answer
-long_answers a b long_a long_b m = let ta = lt-ltb LINE_LIMIT (length a) long_a in let tb = lt-ltb LINE_LIMIT (length b) long_b in rw (ta, tb)
+long_answers a b long_a long_b m = let ta = lt-ltb longest_line (length a) long_a in let tb = lt-ltb longest_line (length b) long_b in rw (ta, tb)
 
-long_nexts : (a b : List ℕ) → LINE_LIMIT < length a → LINE_LIMIT < length b → (m : Mirror) → mirror_next m a ≡ mirror_next m b
+long_nexts : (a b : List ℕ) → longest_line < length a → longest_line < length b → (m : Mirror) → mirror_next m a ≡ mirror_next m b
 unfolding mirror_next
-long_nexts a b long_a long_b m = let ta = lt-ltb LINE_LIMIT (length a) long_a in let tb = lt-ltb LINE_LIMIT (length b) long_b in rw (ta, tb)
+long_nexts a b long_a long_b m = let ta = lt-ltb longest_line (length a) long_a in let tb = lt-ltb longest_line (length b) long_b in rw (ta, tb)
 
-both_long : (a b : List ℕ) → LINE_LIMIT < length a → LINE_LIMIT < length b → SameLine a b
+both_long : (a b : List ℕ) → longest_line < length a → longest_line < length b → SameLine a b
 both_long a b long_a long_b = record { answer_is = long_answers a b long_a long_b; next_is = long_nexts a b long_a long_b }
 
 the_same : (a b : List ℕ) → a ≡ b → SameLine a b

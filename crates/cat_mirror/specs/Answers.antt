@@ -13,9 +13,12 @@ use Rattle.cat_feed.specs.declared.text_fault.ChangesFault.TheVariants as fault
 use Rattle.cat_io.specs.Lines.{lines}
 use Rattle.cat_feed.specs.Mirror.{empty, leads_on, mirrored}
 use Rattle.cat_feed.specs.declared.mirror.Mirror.{Mirror}
-use Rattle.cat_mirror.specs.declared.line.TheConstants.{LINE_LIMIT}
 
 -- ---- one line
+
+-- the most bytes of a line, its LF and one CR before it not counted
+abbrev pub longest_line : ℕ
+longest_line = 1073741824
 
 -- a mirror's place, or that it has none
 abbrev pub place_text : Option Since → List ℕ
@@ -46,11 +49,11 @@ led_by (Err f) m = m
 
 -- the answer to a line, its LF at the end
 unfoldable pub mirror_answer : Mirror → List ℕ → List ℕ
-mirror_answer m line = (if nat_lt LINE_LIMIT (length line) then codes "refused long" else answer_to (changes_of line) m) ++ 10 ∷ []
+mirror_answer m line = (if nat_lt longest_line (length line) then codes "refused long" else answer_to (changes_of line) m) ++ 10 ∷ []
 
 -- the mirror after a line
 unfoldable pub mirror_next : Mirror → List ℕ → Mirror
-mirror_next m line = if nat_lt LINE_LIMIT (length line) then m else led_by (changes_of line) m
+mirror_next m line = if nat_lt longest_line (length line) then m else led_by (changes_of line) m
 
 -- ---- lines
 

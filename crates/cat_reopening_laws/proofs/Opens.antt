@@ -1,5 +1,5 @@
 -- A state that a session reaches may open.
-use Rattle.std.proofs.Common.{ℕ, List, [], ◌∷◌, sym, subst, arith}
+use Rattle.std.proofs.Common.{ℕ, ◌≤◌, List, [], ◌∷◌, inr, sym, subst, arith}
 use Rattle.std.specs.declared.option.Option.{Option}
 use Rattle.cat_tree.specs.Data.{Data}
 use Rattle.cat_collections.specs.Table.{Text}
@@ -36,9 +36,11 @@ use Rattle.cat_reopening_laws.proofs.Within.{IsWithin, step_stays}
 givable : (x : Offered) (r : Text) → IsOffer x r → IsGivable x.tree r
 givable x r h = record { named = h.named; shallow = h.within.shallow; proper = h.within.proper }
 
-entity : (t : Data) (r : Text) → IsProcessed t r → IsEntity t r
-entity t r h = record {
-  given = record { named = h.named; shallow = h.within.shallow; proper = h.within.proper };
+entity : (levels : ℕ) → 100 ≤ levels → (t : Data) (r : Text) → IsProcessed t r → IsEntity levels t r
+entity levels more t r h = record {
+  named = h.named;
+  shallow = let shallow = h.within.shallow in omega arith;
+  proper = h.within.proper;
   namespace = h.namespace;
   schema = h.schema;
   references = h.references;
@@ -96,12 +98,12 @@ module _ (s : Settings) where
 
     forms : HaveForms m
     forms = record {
-      serials = λ p x f. ((formed.providers p x f).begun, (formed.providers p x f).small);
+      serials = λ p x f. inr ((formed.providers p x f).begun, (formed.providers p x f).small);
       shelf = formed.shelf;
       arrivals = formed.arrivals;
       offers = λ a row f. givable row.offered row.reference (offer_is row.offered row.reference (row_form layered real_forms s m sound formed a row f));
-      outputs = λ r x output f e. entity output.entity r (entity_is output.entity r (formed.outputs r x output f e).entity);
-      orphans = λ r x f. entity x.entity r (entity_is x.entity r (formed.orphans r x f));
+      outputs = λ r x output f e. entity 125 (omega arith) output.entity r (entity_is output.entity r (formed.outputs r x output f e).entity);
+      orphans = λ r x f. entity 126 (omega arith) x.entity r (entity_is x.entity r (formed.orphans r x f));
     }
 
     pub may_open : MayOpen layered s.input_limit m

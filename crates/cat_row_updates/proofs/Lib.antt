@@ -28,3 +28,4 @@ pub mod StandingRows
 pub mod Spelling
 pub mod Stores
 pub mod Rested
+pub mod Passed

@@ -39,6 +39,10 @@ pub both : (a b : Bool) → a ≡ true → b ≡ true → (a && b) ≡ true
 both true b h g = g
 both false b h g = h
 
+either_first : (a b : Bool) → a ≡ true → (a || b) ≡ true
+either_first true b h = refl
+either_first false b h = absurd (true≢false (sym h))
+
 either_second : (a b : Bool) → b ≡ true → (a || b) ≡ true
 either_second true b h = refl
 either_second false b h = h
@@ -87,9 +91,9 @@ this_passes r t e = ap (is_this r) e ∙ (bytes_eq-Decides r r).1 refl
 none_length : {A : Type 0} (xs : List A) → xs ≡ [] → (length xs == 0) ≡ true
 none_length xs e = ap (λ l. length l == 0) e
 
-entity_passes : (t : Data) (r : Ref) → IsEntity t r → is_entity t r ≡ true
-entity_passes t r p =
-    both _ _ (both _ _ (both _ _ p.namespace (this_passes r t p.given.named)) (none_length (breaches t) p.schema)) (none_length (kind_faults t) p.references)
+entity_passes : (levels : ℕ) (t : Data) (r : Ref) → IsEntity levels t r → is_entity t r ≡ true
+entity_passes levels t r p =
+    both _ _ (both _ _ (both _ _ p.namespace (this_passes r t p.named)) (none_length (breaches t) p.schema)) (none_length (kind_faults t) p.references)
 
 not_any : (r : Ref) (rs : List Ref) → AllByRecursion (λ q. same_text r q ≡ false) rs → list_any (same_text r) rs ≡ false
 not_any r [] h = refl
@@ -103,8 +107,10 @@ differ_passes (r ∷ rs) d = both _ _ (ap not (not_any r rs d.0)) (differ_passes
 module _ (rules : Rules) (m : State) (t : IsTold m) (placed : IsPlaced m) (formed : HaveForms m) where
   source_passes : (e : Text × ProviderInputs) → In e m.providers → is_source e ≡ true
   source_passes e i =
-      let s = formed.serials e.0 e.1 (found_in text_total text_antisymmetric m.providers t.providers_in_order e.0 e.1 i) in
-      either_second (length e.1.items == 0) _ (both _ _ (le-leb 1 e.1.serial s.0) (lt-ltb e.1.serial (2 ^ 53) s.1))
+      elim (formed.serials e.0 e.1 (found_in text_total text_antisymmetric m.providers t.providers_in_order e.0 e.1 i)) [
+        | inl none ↦ either_first (length e.1.items == 0) _ (none_length e.1.items none)
+        | inr s ↦ either_second (length e.1.items == 0) _ (both _ _ (le-leb 1 e.1.serial s.0) (lt-ltb e.1.serial (2 ^ 53) s.1))
+      ]
 
   row_passes : (e : ℕ × Row) → In e m.rows → is_given_row e ≡ true
   row_passes e i =
@@ -114,7 +120,7 @@ module _ (rules : Rules) (m : State) (t : IsTold m) (placed : IsPlaced m) (forme
 
   output_passes : (r : Ref) (x : Recorded) → get m.records r ≡ Some x → (v : Option Output) → x.output ≡ v → is_output r v ≡ true
   output_passes r x f None e = refl
-  output_passes r x f (Some output) e = both _ _ (entity_passes output.entity r (formed.outputs r x output f e)) (differ_passes (keys output.offers) (placed.once r x output f e))
+  output_passes r x f (Some output) e = both _ _ (entity_passes 125 output.entity r (formed.outputs r x output f e)) (differ_passes (keys output.offers) (placed.once r x output f e))
 
   kept_passes : (e : Text × Recorded) → In e (due_records m) → is_kept e ≡ true
   kept_passes e i =
@@ -122,7 +128,7 @@ module _ (rules : Rules) (m : State) (t : IsTold m) (placed : IsPlaced m) (forme
       ap (λ (y : Recorded). is_output e.0 y.output) k.is ∙ output_passes e.0 k.kept k.at k.kept.output refl
 
   left_passes : (e : Text × Orphan) → In e m.orphans → is_left e ≡ true
-  left_passes e i = entity_passes e.1.entity e.0 (formed.orphans e.0 e.1 (found_in text_total text_antisymmetric m.orphans t.orphans_in_order e.0 e.1 i))
+  left_passes e i = entity_passes 126 e.1.entity e.0 (formed.orphans e.0 e.1 (found_in text_total text_antisymmetric m.orphans t.orphans_in_order e.0 e.1 i))
 
   pub forms_pass : has_forms (rested m) ≡ true
   unfolding has_forms

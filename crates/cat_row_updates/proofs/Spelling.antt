@@ -107,7 +107,7 @@ item_fine : (p r : Text) (a : ℕ) (key : Text) (tree : Data) → IsTrue (is_nam
 item_fine p r a key tree n ref proper shallow One = record { formed = n; proper = ((tt, (tt, (proper, tt))), ((refl, (refl, tt)), ((refl, tt), (tt, tt)))); depth = omega arith; named = ref }
 item_fine p r a key tree n ref proper shallow Two = record { formed = n; proper = ((tt, (tt, tt)), ((refl, tt), (tt, tt))); depth = omega arith; named = ref }
 
-orphan_fine : (r : Text) (entity : Data) (n : ℕ) → IsRef r → IsProper entity → depth_of entity ≤ 100 → IsFine (OrphanRow r entity n)
+orphan_fine : (r : Text) (entity : Data) (n : ℕ) → IsRef r → IsProper entity → depth_of entity ≤ 126 → IsFine (OrphanRow r entity n)
 orphan_fine r entity n ref proper shallow = record { formed = refl; proper = ((proper, (tt, tt)), ((refl, tt), (tt, tt))); depth = omega arith; named = ref }
 
 -- ---- records
@@ -153,7 +153,7 @@ module _ (arrivals : Emitted) (r : Text) where
   -- an output that was processed, and offers what may be given
   record IsKeepable (output : Output) : Type 0 where
     proper : IsProper output.entity
-    shallow : depth_of output.entity ≤ 100
+    shallow : depth_of output.entity ≤ 125
     offers : AreGivable output.offers
 
   abbrev AreKeepable : Option Output → Type 0
@@ -166,11 +166,11 @@ module _ (arrivals : Emitted) (r : Text) where
   kept_proper v None f = tt
   kept_proper v (Some output) f = let k = f output refl in ((k.proper, (offers_proper v output.offers k.offers, tt)), ((refl, tt), (tt, tt)))
 
-  kept_depth : (v : Version) (o : Option Output) → AreKeepable o → depth_of (kept_data (option_map (output_in v arrivals r) o)) ≤ 103
+  kept_depth : (v : Version) (o : Option Output) → AreKeepable o → depth_of (kept_data (option_map (output_in v arrivals r) o)) ≤ 126
   kept_depth v None f = omega arith
   kept_depth v (Some output) f =
       let k = f output refl in
-      let entity : depth_of output.entity ≤ 100 = k.shallow in
+      let entity : depth_of output.entity ≤ 125 = k.shallow in
       let offers = offers_depth v output.offers k.offers in omega arith
 
   kept_named : (v : Version) (o : Option Output) → AreKeepable o → OutputNamed (option_map (output_in v arrivals r) o)
@@ -230,7 +230,7 @@ module _ (version : Version) (rule : OrphanRule) (m : State) (t : IsTold m) (pla
   kept_fine : (r : Ref) (x : Recorded) → get m.records r ≡ Some x → AreKeepable (emitted m.rows) r x.output
   kept_fine r x f output e =
       let entity = formed.outputs r x output f e in
-      record { proper = entity.given.proper; shallow = entity.given.shallow; offers = offer_fine }
+      record { proper = entity.proper; shallow = entity.shallow; offers = offer_fine }
     where
       offer_fine : (z : Text × Offered) → In z output.offers → IsGivable z.1.tree z.0
       offer_fine z g =
@@ -262,4 +262,4 @@ module _ (version : Version) (rule : OrphanRule) (m : State) (t : IsTold m) (pla
         subst IsFine (sym e) (record_fine (emitted m.rows) r (unwrap_or (get m.holders r) 0) x.issues x.number version x.output (record_ref rows_of r x f) (kept_fine r x f))
     fine b (Leaving r x f e) =
         let entity = formed.orphans r x f in
-        subst IsFine (sym e) (orphan_fine r x.entity x.number (is_ref x.entity r entity.given.named) entity.given.proper entity.given.shallow)
+        subst IsFine (sym e) (orphan_fine r x.entity x.number (is_ref x.entity r entity.named) entity.proper entity.shallow)

@@ -37,23 +37,26 @@ pub record IsGivable (t : Tree) (r : Ref) : Type 0 where
   pub shallow : depth_of t ≤ 100
   pub proper : IsProper t
 
--- a tree is a processed entity of a reference: it may be given under it, states its namespace, and breaks no rule of the descriptor format and no
--- reference field
-pub record IsEntity (t : Tree) (r : Ref) : Type 0 where
-  pub given : IsGivable t r
+-- a tree is a processed entity of a reference: the reference is its own, it is at most so many levels deep, the keys of each of its maps rise, it states
+-- its namespace, and breaks no rule of the descriptor format and no reference field
+pub record IsEntity (levels : ℕ) (t : Tree) (r : Ref) : Type 0 where
+  pub named : described t ≡ Ok r
+  pub shallow : depth_of t ≤ levels
+  pub proper : IsProper t
   pub namespace : has_namespace t ≡ true
   pub schema : breaches t ≡ []
   pub references : kind_faults t ≡ []
 
--- all that is kept has its form: serials are from 1 to 2 ^ 53 - 1, arrival numbers are at least 1, what is offered may stand under its reference, and
--- kept outputs and orphans are processed entities of their references
+-- all that is kept has its form: serials of providers that have items are from 1 to 2 ^ 53 - 1, arrival numbers are at least 1, what is offered may stand
+-- under its reference, and kept outputs and orphans are processed entities of their references, so deep that the values of their rows are at most 127
+-- levels deep
 pub record HaveForms (m : State) : Type 0 where
-  pub serials : (p : Text) (x : ProviderInputs) → get m.providers p ≡ Some x → (1 ≤ x.serial) × (x.serial < 2 ^ 53)
+  pub serials : (p : Text) (x : ProviderInputs) → get m.providers p ≡ Some x → (x.items ≡ []) ⊎ ((1 ≤ x.serial) × (x.serial < 2 ^ 53))
   pub shelf : (name body : Text) → get m.shelf name ≡ Some body → IsTrue (is_shelf_name name)
   pub arrivals : (a : ℕ) (row : Row) → row_at m.rows a ≡ Some row → 1 ≤ a
   pub offers : (a : ℕ) (row : Row) → row_at m.rows a ≡ Some row → IsGivable row.offered.tree row.reference
-  pub outputs : (r : Ref) (x : Record) (output : Output) → get m.records r ≡ Some x → x.output ≡ Some output → IsEntity output.entity r
-  pub orphans : (r : Ref) (x : Orphan) → get m.orphans r ≡ Some x → IsEntity x.entity r
+  pub outputs : (r : Ref) (x : Record) (output : Output) → get m.records r ≡ Some x → x.output ≡ Some output → IsEntity 125 output.entity r
+  pub orphans : (r : Ref) (x : Orphan) → get m.orphans r ≡ Some x → IsEntity 126 x.entity r
 
 -- a store with the rows of this state opens: the state is sound and in order, its counters are in their bounds, all that it keeps has its form, and its
 -- inputs are within the limit

@@ -8,5 +8,7 @@ pub mod Passes
 pub mod Accepting
 pub mod Naming
 pub mod Ruling
+pub mod Righting
+pub mod Admitting
 pub mod Keeping
 pub mod Begun

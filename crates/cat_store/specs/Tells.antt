@@ -1,9 +1,10 @@
 -- What is asked of a state before its rows count as telling it, beside what holds between two events.
-use Rattle.std.specs.Prelude.{ℕ, ◌^◌, Bool, true, ◌&&◌, nat_lt}
+use Rattle.std.specs.Prelude.{ℕ, ◌^◌, Bool, true, ◌&&◌, nat_lt, ⊤}
 use Rattle.std.specs.declared.option.Option.{Option}
 use Rattle.std.specs.declared.option.Option.TheVariants.{None, Some}
 use Rattle.std.specs.FinMap.Entries.{is_sorted}
-use Rattle.std.specs.List.{list_all}
+use Rattle.std.specs.List.{AllByRecursion, list_all}
+use Rattle.cat_tree.specs.Proper.{IsProper}
 use Rattle.cat_collections.specs.Table.{Text, text_cmp}
 use Rattle.cat_types.specs.declared.input.Offered.{Offered}
 use Rattle.cat_types.specs.declared.work.Output.{Output}
@@ -49,3 +50,26 @@ is_telling m =
     && list_all is_narrow_row m.rows
     && list_all is_narrow_record m.records
     && list_all is_narrow_orphan m.orphans
+
+-- the keys of each map of a row's tree rise
+abbrev pub IsProperRow : ℕ × Row → Type 0
+IsProperRow e = IsProper e.1.offered.tree
+
+-- those of the entity of a kept output rise
+abbrev pub IsProperOutput : Option Output → Type 0
+IsProperOutput None = ⊤
+IsProperOutput (Some output) = IsProper output.entity
+
+-- the same of a record
+abbrev pub IsProperRecord : Ref × Record → Type 0
+IsProperRecord e = IsProperOutput e.1.output
+
+-- the same of an orphan
+abbrev pub IsProperOrphan : Ref × Orphan → Type 0
+IsProperOrphan e = IsProper e.1.entity
+
+-- the keys of each map that a state keeps rise
+pub record AreProper (m : State) : Type 0 where
+  pub rows : AllByRecursion IsProperRow m.rows
+  pub records : AllByRecursion IsProperRecord m.records
+  pub orphans : AllByRecursion IsProperOrphan m.orphans

@@ -1,5 +1,6 @@
 //! Whether the numbers of a tree are integers of 64 bits. Nothing here takes memory.
-ghost use Rattle.std.specs.Prelude.{◌≡◌};
+ghost use Rattle.std.specs.Prelude.{◌≡◌, true};
+ghost use Rattle.cat_tree.specs.Proper.{IsProper};
 ghost use Rattle.cat_store.specs.Narrow as spec;
 ghost use Rattle.cat_tree.specs.View.{data_of};
 
@@ -17,10 +18,11 @@ fn is_short(number: i128) -> bool
     LEAST <= number && number < PAST
 }
 
-/// Whether each number of the tree is an integer of 64 bits.
+/// Whether each number of the tree is an integer of 64 bits. Where all are, the keys of each of its maps were seen to rise.
 #[tactic(auto, using(cat_tree::proofs::Weights::falls))]
 pub(crate) fn is_narrow(tree: &Tree) -> bool
-    ensures { result ≡ spec.is_narrow (data_of tree.now) }
+    ensures narrow { result ≡ spec.is_narrow (data_of tree.now) }
+    ensures proper { result ≡ true → IsProper (data_of tree.now) }
 {
     match tree {
         Tree::Null | Tree::Flag(_) | Tree::Words(_) => true,

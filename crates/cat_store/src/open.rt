@@ -9,12 +9,12 @@ ghost use Rattle.cat_model.specs.Step.{reopened};
 ghost use Rattle.cat_row_reader.specs.Candidate.{IsCandidate};
 ghost use Rattle.cat_row_reader.specs.Forms.{has_forms};
 ghost use Rattle.cat_row_reader.specs.Read.{AreNoTexts};
-ghost use Rattle.cat_row_updates.specs.Right.{AreOfNone};
+ghost use Rattle.cat_row_updates.specs.Right.{AreOfNone, MayOpen};
 ghost use Rattle.cat_state_check.specs.Candidate.{is_candidate};
 ghost use Rattle.cat_store.specs.Boxed.{unboxed};
-ghost use Rattle.cat_store.specs.Opened.{HasRule, IsOpening, IsRead, is_first, is_of_first, is_row_of_first, rows_in};
+ghost use Rattle.cat_store.specs.Opened.{HasRule, IsOpening, IsRead, IsRight, is_first, is_of_first, is_row_of_first, rows_in};
 ghost use Rattle.cat_store.specs.Refused.{AreTheirs, IsDifference, IsDiffering, IsNamed, IsRefused};
-ghost use Rattle.cat_store.specs.Tells.{is_telling};
+ghost use Rattle.cat_store.specs.Tells.{AreProper, is_telling};
 ghost use Rattle.cat_stored_rows.specs.Stored.{stored, texts_of};
 
 use crate::store::{Store, commit};
@@ -170,6 +170,7 @@ fn are_same(left: &StoredRows, right: &StoredRows) -> bool
 fn telling(found: Option<Opening>) -> Option<Opening>
     ensures same { IfSome result (λ x. found ≡ Some x) }
     ensures tells { IfSome result (λ x. is_telling x.state.value ≡ true) }
+    ensures proper { IfSome result (λ x. AreProper x.state.value) }
     ensures opens { result ≡ None → IfSome found (λ x. is_telling x.state.value ≡ false) }
 {
     let opening = found?;
@@ -187,6 +188,7 @@ fn told<L: Layers>(
     candidate: Box<State>,
 ) -> Result<Option<Opening>, AllocError>
     ensures opening { IfOk result (λ o. IfSome o (λ x. IsOpening L.rules x.links x.state.value)) }
+    ensures proper { IfOk result (λ o. IfSome o (λ x. AreProper x.state.value)) }
     ensures state { IfOk result (λ o. IfSome o (λ x. x.state.value ≡ reopened L.rules candidate.value)) }
     ensures opens { IfOk result (λ o. is_candidate candidate.value ≡ true → is_telling (reopened L.rules candidate.value) ≡ true → o ≢ None) }
 {
@@ -244,6 +246,7 @@ fn right_candidate<L: Layers>(
     input_limit: u64,
 ) -> Result<Option<BoxedCandidate>, AllocError>
     ensures candidate { IfOk result (λ o. IfSome o (λ c. IsCandidate rows.now (unboxed c))) }
+    ensures right { IfOk result (λ o. IfSome o (λ c. IsRight L.rules input_limit c.state.value)) }
     ensures opens { IfOk result (λ o. o ≡ None → AreOfNone L.rules input_limit rows.now) }
 {
     let Some(candidate) = boxed_candidate(alloc, rows)? else {
@@ -265,6 +268,8 @@ fn found_as<L: Layers>(
 ) -> Result<Option<Found>, AllocError>
     requires { IsCandidate rows.now (unboxed candidate) }
     ensures opening { IfOk result (λ o. IfSome o (λ x. IsOpening L.rules x.links x.state.value)) }
+    ensures proper { IfOk result (λ o. IfSome o (λ x. AreProper x.state.value)) }
+    ensures state { IfOk result (λ o. IfSome o (λ x. x.state.value ≡ reopened L.rules candidate.state.value)) }
     ensures rule { IfOk result (λ o. IfSome o (λ x. HasRule rows.now x.orphans x.state.value)) }
     ensures opens { IfOk result (λ o. o ≡ None → (limit : ℕ) → AreOfNone L.rules limit rows.now) }
 {
@@ -291,6 +296,7 @@ fn found_in<L: Layers>(
     input_limit: u64,
 ) -> Result<Option<Found>, AllocError>
     ensures opening { IfOk result (λ o. IfSome o (λ x. IsOpening L.rules x.links x.state.value)) }
+    ensures admissible { IfOk result (λ o. IfSome o (λ x. MayOpen L.rules input_limit x.state.value)) }
     ensures rule { IfOk result (λ o. IfSome o (λ x. HasRule rows.now x.orphans x.state.value)) }
     ensures opens { IfOk result (λ o. o ≡ None → AreOfNone L.rules input_limit rows.now) }
 {
@@ -309,6 +315,7 @@ fn read<L: Layers>(
     input_limit: u64,
 ) -> Result<Option<Reading>, AllocError>
     ensures opening { IfOk result (λ o. IfSome o (λ x. IsOpening L.rules x.links x.state.value)) }
+    ensures admissible { IfOk result (λ o. IfSome o (λ x. MayOpen L.rules input_limit x.state.value)) }
     ensures read { IfOk result (λ o. IfSome o (λ x. IsRead rows.now x.state.value)) }
     ensures rule { IfOk result (λ o. IfSome o (λ x. IfSome orphans (λ rule. x.orphans ≡ rule))) }
     ensures kept { IfOk result (λ o. IfSome o (λ x. orphans ≡ None → HasRule rows.now x.orphans x.state.value)) }
@@ -378,11 +385,11 @@ fn refusal(alloc: Global, rows: &StoredRows, input_limit: u64) -> OpenFault
 /// that of its parts. A store of the first version is brought to the second, and another rule than the stored one is stored, by one commit.
 /// The state is one that its rows tell, in either version, and opens again as itself.
 ///
-/// A row is refused only where the store has the rows of no state that opens: a store that has those of a sound catalogue in either version,
-/// within its limits, opens. The row is the first, in order of table and key, that has no reading, breaks a rule of stores or passes the limit
-/// on input bytes, or one that is missing, in the place where it would stand. Where none is, it is the first by which the rows differ from those of the state
-/// that they stand for, or the row of the arrivals' counter. `Keeper` comes only where the keeper's count of faults rose in this call. After an error the keeper's tables are
-/// as before.
+/// A store opens just where its rows are those of a state that may open, in either version: the state is sound, its counters are in their bounds, all that
+/// it keeps has its form, and its inputs are within the limit. A row is refused only where the store has the rows of no such state. It is the first, in
+/// order of table and key, that has no reading, breaks a rule of stores or passes the limit on input bytes, or one that is missing, in the place where it
+/// would stand. Where none is, it is the first by which the rows differ from those of the state that they stand for, or the row of the arrivals' counter.
+/// `Keeper` comes only where the keeper's count of faults rose in this call. After an error the keeper's tables are as before.
 pub fn open<L: Layers, K: Keeper>(
     alloc: Global,
     layers: &L,
@@ -392,6 +399,7 @@ pub fn open<L: Layers, K: Keeper>(
     input_limit: u64,
 ) -> Result<Opened<K>, (OpenFault, K)>
     ensures opening { IfOk result (λ x. IsOpening L.rules x.links x.state.value) }
+    ensures admissible { IfOk result (λ x. MayOpen L.rules input_limit x.state.value) }
     ensures read { IfOk result (λ x. IfSome (K.tables place keeper) (λ rows. IsRead rows x.state.value)) }
     ensures rule { IfOk result (λ x. IfSome orphans (λ rule. x.store.orphans ≡ rule)) }
     ensures kept { IfOk result (λ x. orphans ≡ None → IfSome (K.tables place keeper) (λ rows. HasRule rows x.store.orphans x.state.value)) }

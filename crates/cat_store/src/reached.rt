@@ -53,6 +53,7 @@ impl<K: Keeper> Store<K> {
         ensures orphans { self.new.orphans ≡ self.old.orphans }
         ensures later { K.faults self.old.keeper ≤ K.faults self.new.keeper }
         ensures cause { result ≡ Committed.Failed → Rose (K.faults self.old.keeper) (K.faults self.new.keeper) }
+        ensures still { stored self.old.orphans after.now ≡ self.old.rows → (result ≢ Committed.Failed) × (self.new.keeper ≡ self.old.keeper) }
     {
         if !are_named(before) || !are_named(after) {
             return self.follow(alloc, after);

@@ -1,10 +1,11 @@
 //! Rows that follow a catalogue's state.
-ghost use Rattle.std.specs.Prelude.{◌≡◌, ◌≢◌, ◌≤◌};
+ghost use Rattle.std.specs.Prelude.{◌≡◌, ◌≢◌, ◌≤◌, []};
 ghost use Rattle.cat_io.specs.Causes.{Rose};
 ghost use Rattle.cat_keeper.specs.Answers.{Are, Commits};
 ghost use Rattle.cat_keeper.specs.Store.{applied};
 ghost use Rattle.cat_keeper.specs.declared.keeper.Committed.TheVariants.{Kept};
 ghost use Rattle.cat_keeper.specs.declared.keeper.Place.{Place};
+ghost use Rattle.cat_stored_rows.specs.Differing.{AreNeeded};
 ghost use Rattle.cat_stored_rows.specs.Stored.{stored, texts_of};
 
 use cat_keeper::keeper::{Committed, Keeper, Place};
@@ -28,6 +29,7 @@ pub(crate) fn commit<K: Keeper>(alloc: Global, keeper: &mut K, batch: &Batch) ->
     ensures tables { (place : Place) → Commits (K.tables place keeper.old) (K.tables place keeper.new) result batch.now }
     ensures later { K.faults keeper.old ≤ K.faults keeper.new }
     ensures cause { result ≡ Committed.Failed → Rose (K.faults keeper.old) (K.faults keeper.new) }
+    ensures none { batch.now ≡ [] → (result ≡ Kept) × (keeper.new ≡ keeper.old) }
 {
     if batch.is_empty() {
         Committed::Kept
@@ -40,6 +42,7 @@ impl<K: Keeper> Store<K> {
     // Has the keeper make the changes of a batch, which lead from the rows to these, and takes these in where they are kept.
     pub(crate) fn take_in(&mut self, alloc: Global, rows: Stored, batch: &Batch) -> Committed
         requires leads { applied batch.now (texts_of self.old.rows) ≡ texts_of rows }
+        requires needed { AreNeeded self.old.rows rows batch.now }
         ensures rows { result ≡ Kept → self.new.rows ≡ rows }
         ensures same { result ≢ Kept → self.new.rows ≡ self.old.rows }
         ensures told { Are (K.tables self.old.place self.old.keeper) (texts_of self.old.rows) → Are (K.tables self.new.place self.new.keeper) (texts_of self.new.rows) }
@@ -47,6 +50,7 @@ impl<K: Keeper> Store<K> {
         ensures orphans { self.new.orphans ≡ self.old.orphans }
         ensures later { K.faults self.old.keeper ≤ K.faults self.new.keeper }
         ensures cause { result ≡ Committed.Failed → Rose (K.faults self.old.keeper) (K.faults self.new.keeper) }
+        ensures still { rows ≡ self.old.rows → (result ≡ Kept) × (self.new.keeper ≡ self.old.keeper) }
     {
         match commit(alloc, &mut self.keeper, batch) {
             Committed::Kept => {
@@ -68,6 +72,7 @@ impl<K: Keeper> Store<K> {
         ensures orphans { self.new.orphans ≡ self.old.orphans }
         ensures later { K.faults self.old.keeper ≤ K.faults self.new.keeper }
         ensures cause { result ≡ Committed.Failed → Rose (K.faults self.old.keeper) (K.faults self.new.keeper) }
+        ensures still { stored self.old.orphans state.now ≡ self.old.rows → (result ≢ Committed.Failed) × (self.new.keeper ≡ self.old.keeper) }
     {
         let Ok(rows) = stored_rows(alloc, self.orphans, state) else {
             return Committed::NoMemory;

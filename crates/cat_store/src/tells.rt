@@ -1,7 +1,8 @@
 //! Whether a state is in order and its numbers have 64 bits, so that its rows tell it. Nothing here takes memory.
-ghost use Rattle.std.specs.Prelude.{◌≡◌, ◌^◌, ◌&&◌, nat_lt};
+ghost use Rattle.std.specs.Prelude.{◌≡◌, ◌^◌, ◌&&◌, nat_lt, true};
 ghost use Rattle.std.specs.FinMap.Entries.{is_sorted};
-ghost use Rattle.std.specs.List.{list_all};
+ghost use Rattle.std.specs.List.{AllByRecursion, list_all};
+ghost use Rattle.cat_tree.specs.Proper.{IsProper};
 ghost use Rattle.cat_collections.specs.Table.{text_cmp};
 ghost use Rattle.cat_store.specs.Narrow.{is_narrow};
 ghost use Rattle.cat_store.specs.Tells as spec;
@@ -36,13 +37,15 @@ fn are_right_providers(providers: &Map<Text, ProviderInputs>) -> bool
 }
 
 fn is_narrow_row(arrival: u64, row: &Row) -> bool
-    ensures { result ≡ spec.is_narrow_row (arrival, row.now) }
+    ensures narrow { result ≡ spec.is_narrow_row (arrival, row.now) }
+    ensures proper { result ≡ true → spec.IsProperRow (arrival, row.now) }
 {
     is_narrow(row.offered.tree.tree())
 }
 
 fn are_narrow_rows(rows: &IndexedRows) -> bool
-    ensures { result ≡ list_all spec.is_narrow_row rows.now }
+    ensures narrow { result ≡ list_all spec.is_narrow_row rows.now }
+    ensures proper { result ≡ true → AllByRecursion spec.IsProperRow rows.now }
 {
     for (arrival, row) in rows.iter() {
         if !is_narrow_row(*arrival, row) {
@@ -64,7 +67,8 @@ fn are_narrow_offers(offers: &[(Ref, Offered)]) -> bool
 }
 
 fn is_narrow_output(output: &Option<Output>) -> bool
-    ensures { result ≡ spec.is_narrow_output output.now }
+    ensures narrow { result ≡ spec.is_narrow_output output.now }
+    ensures proper { result ≡ true → spec.IsProperOutput output.now }
 {
     match output {
         None => true,
@@ -76,13 +80,15 @@ fn is_narrow_output(output: &Option<Output>) -> bool
 
 // The number of a record has 64 bits by its type.
 fn is_narrow_record(number: u64, output: &Option<Output>) -> bool
-    ensures { result ≡ (nat_lt number (2 ^ 64) && spec.is_narrow_output output.now) }
+    ensures narrow { result ≡ (nat_lt number (2 ^ 64) && spec.is_narrow_output output.now) }
+    ensures proper { result ≡ true → spec.IsProperOutput output.now }
 {
     is_narrow_output(output)
 }
 
 fn are_narrow_records(records: &Records) -> bool
-    ensures { result ≡ list_all spec.is_narrow_record records.now }
+    ensures narrow { result ≡ list_all spec.is_narrow_record records.now }
+    ensures proper { result ≡ true → AllByRecursion spec.IsProperRecord records.now }
 {
     for (_, kept) in records.iter() {
         if !is_narrow_record(kept.number, &kept.output) {
@@ -94,13 +100,15 @@ fn are_narrow_records(records: &Records) -> bool
 
 // The number of an orphan has 64 bits by its type.
 fn is_narrow_orphan(number: u64, orphan: &Orphan) -> bool
-    ensures { result ≡ (nat_lt number (2 ^ 64) && is_narrow orphan.now.entity) }
+    ensures narrow { result ≡ (nat_lt number (2 ^ 64) && is_narrow orphan.now.entity) }
+    ensures proper { result ≡ true → IsProper orphan.now.entity }
 {
     is_narrow(orphan.entity.tree())
 }
 
 fn are_narrow_orphans(orphans: &Map<Ref, Orphan>) -> bool
-    ensures { result ≡ list_all spec.is_narrow_orphan orphans.now }
+    ensures narrow { result ≡ list_all spec.is_narrow_orphan orphans.now }
+    ensures proper { result ≡ true → AllByRecursion spec.IsProperOrphan orphans.now }
 {
     for (_, orphan) in orphans.iter() {
         if !is_narrow_orphan(orphan.number, orphan) {
@@ -111,10 +119,11 @@ fn are_narrow_orphans(orphans: &Map<Ref, Orphan>) -> bool
 }
 
 /// Whether the providers of a state, their items and the shelf are in order, as those of a map are, and the numbers of all that it keeps have 64 bits. Of a
-/// state that is sound, the rows tell it then.
+/// state that is sound, the rows tell it then. The keys of each map that it keeps were seen to rise.
 #[tactic(auto, unfolding(crate::specs::Tells::is_telling))]
 pub(crate) fn is_telling(m: &State) -> bool
-    ensures { result ≡ spec.is_telling m.now }
+    ensures tells { result ≡ spec.is_telling m.now }
+    ensures proper { result ≡ true → spec.AreProper m.now }
 {
     m.providers.in_order();
     m.shelf.in_order();

@@ -19,7 +19,7 @@ fn push_row(text: &mut String, table: Table, key: &str, value: &str) -> Result<(
 }
 
 // Rows in one text.
-fn shown(alloc: Global, rows: &StoredRows) -> Result<String, AllocError> {
+pub(crate) fn shown(alloc: Global, rows: &StoredRows) -> Result<String, AllocError> {
     let mut text = String::new(alloc);
     for row in rows.iter() {
         push_row(&mut text, row.0.0, row.0.1.as_str(), row.1.as_str())?;
