@@ -253,7 +253,6 @@ module _ {A C : Type 0} (rules : Rules) (catalogue : A → Ledger) (clock : A �
       | inl e ↦ (inl e, (ap place e, ap refusals e))
       | inr l ↦ (inr (l.0, l.1, (l.2.0, λ i. (l.2.1.0 i, l.2.1.1.0 i))), l.2.1.1.1)
     ]
-
     lacked_in (Show file) h = (h, (ap place h, ap refusals h))
 
     lacked : (asked : Result Request Refusal) → Lacks acts_kept asks_kept tells_kept old new asked → Lacks acts_plain asks_plain tells_plain old new asked × Stays old new

@@ -307,7 +307,9 @@ struct Comparison {
 fn inputs_in(journal: &History<Entry>) -> u64 {
     let mut inputs = 0u64;
     for place in 0..journal.kept() {
-        if let Some(entry) = journal.at(place) && matches!(entry.noted, Noted::Acted(..)) {
+        if let Some(entry) = journal.at(place)
+            && matches!(entry.noted, Noted::Acted(..))
+        {
             inputs = inputs.saturating_add(1);
         }
     }
@@ -321,7 +323,9 @@ fn played_on(
     journal: &History<Entry>,
 ) -> Result<Option<Vec<u8>>, Fail> {
     for place in 0..journal.kept() {
-        if let Some(entry) = journal.at(place) && !player.play(alloc, &entry.noted)? {
+        if let Some(entry) = journal.at(place)
+            && !player.play(alloc, &entry.noted)?
+        {
             return Ok(None);
         }
     }

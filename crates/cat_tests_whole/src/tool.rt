@@ -16,7 +16,10 @@ const CASES: [(&[&str], &[u8]); 62] = [
     (&["wire", "--orphans", "delete"], b"wire delete"),
     (&["session", "--orphans", "drop"], USAGE),
     (&["session", "--orphans"], USAGE),
-    (&["session", "--orphans", "keep", "--orphans", "keep"], USAGE),
+    (
+        &["session", "--orphans", "keep", "--orphans", "keep"],
+        USAGE,
+    ),
     (&["sample", "--orphans", "keep"], USAGE),
     (&["session", "--store"], USAGE),
     (&["session", "--store", "--orphans"], USAGE),
@@ -26,7 +29,10 @@ const CASES: [(&[&str], &[u8]); 62] = [
     (&["session", "-h"], USAGE),
     (&["session", "--store", "a.db"], b"session store a.db"),
     (&["session", "--store=a.db"], b"session store a.db"),
-    (&["session", "--store=--orphans"], b"session store --orphans"),
+    (
+        &["session", "--store=--orphans"],
+        b"session store --orphans",
+    ),
     (&["wire", "--store", "a.db"], b"wire store a.db"),
     (
         &["session", "--store", "a.db", "--orphans", "delete"],
@@ -68,7 +74,15 @@ const CASES: [(&[&str], &[u8]); 62] = [
         b"serve a:1 16 1",
     ),
     (
-        &["serve", "a:1", "--connections=08", "--orphans", "delete", "--workers", "1"],
+        &[
+            "serve",
+            "a:1",
+            "--connections=08",
+            "--orphans",
+            "delete",
+            "--workers",
+            "1",
+        ],
         b"serve a:1 1 8 delete",
     ),
     (

@@ -14,5 +14,10 @@ returns-in-Err g c =
     let tables = g.K.Keeper.tables c.in-Some.place in
     let e = c.in-Err.ensures in
     let u = c.unopened.ensures in
-    rw c.in-Some.is (inr (c.in-Err.keeper, refl, refl, shut g.O.Sink.written g.O.Sink.faults tables g.K.Keeper.faults c.unopened.result c.args.sink.now c.unopened.new.sink c.args.keeper c.in-Err.keeper u.ended u.unwritten e.same
-    (λ is. e.cause (u.keeper is)) (λ is. u.unopenable is (tables c.args.keeper) e.opens) (λ is. u.refused is (tables c.args.keeper) e.named)))
+    rw c.in-Some.is (inr (
+      c.in-Err.keeper,
+      refl,
+      refl,
+      shut g.O.Sink.written g.O.Sink.faults tables g.K.Keeper.faults c.unopened.result c.args.sink.now c.unopened.new.sink c.args.keeper c.in-Err.keeper u.ended u.unwritten e.same
+          (λ is. e.cause (u.keeper is)) (λ is. u.unopenable is (tables c.args.keeper) e.opens) (λ is. u.refused is (tables c.args.keeper) e.named),
+    ))
