@@ -156,7 +156,7 @@ fn push_status(
         letter: b'a',
     };
     let status = answer_lines(alloc, &mut machine, source, sink);
-    push_counted(out, "", u64::from(status.0))
+    push_counted(out, "", u64::from(status.number()))
 }
 
 // Puts how a connection ends behind what stands so far.
