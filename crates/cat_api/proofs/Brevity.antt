@@ -1,6 +1,6 @@
 -- How long the replies to commands are.
 use Rattle.std.proofs.Common.{◌≡◌, ℕ, ◌+◌, ◌^◌, ◌<◌, ◌≤◌, Bool, true, false, List, [], ◌∷◌, ◌++◌, length, length-append, refl, sym, subst, arith, codes}
-use Rattle.std.specs.Prelude.{IfOk, Result, Ok, Err, not, if◌then◌else◌, ◌||◌}
+use Rattle.std.specs.Prelude.{IfOk, Result, Ok, Err, not, if◌then◌else◌, ◌||◌, ◌&&◌}
 use Rattle.std.specs.Fmt.{decimal}
 use Rattle.std.proofs.lemmas.Fmt.{length-decimal-le}
 use Rattle.cat_feed.specs.Place.{since_text}

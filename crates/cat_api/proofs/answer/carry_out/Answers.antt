@@ -2,7 +2,7 @@ use Rattle.std.proofs.Common.{subst}
 use Rattle.std.specs.Prelude.{IfOk, OnErr}
 use Rattle.cat_api.specs.Answering.{Carries, LacksIn}
 use Rattle.cat_api.specs.Room.{IsBriefTo}
-use Rattle.cat_api.proofs.Always.{if_any}
+use Rattle.cat_api.proofs.Always.{if_any, if_still}
 use Rattle.cat_api.proofs.answer.carry_out.Goals as goal
 
 pub returns-in-Act-clause-brief : goal.returns-in-Act-clause-brief
@@ -37,3 +37,11 @@ returns-in-Tell-clause-ok g c =
 pub returns-in-Tell-clause-err : goal.returns-in-Tell-clause-err
 returns-in-Tell-clause-err g c =
     subst (λ o. OnErr c.tell.result (LacksIn g.D.Desk.acts g.D.Desk.asks g.D.FeedDesk.tells c.args.desk.now c.tell.new.desk o)) (c.in-Tell.ensures g.D.Desk.order g.D.Desk.stitch_order) c.tell.ensures.err
+
+pub returns-in-Show-clause-brief : goal.returns-in-Show-clause-brief
+returns-in-Show-clause-brief g c = subst (λ o. IfOk c.reply_to.result (IsBriefTo o)) (c.in-Show.ensures g.D.Desk.order g.D.Desk.stitch_order) (if_any c.reply_to.result)
+
+pub returns-in-Show-clause-ok : goal.returns-in-Show-clause-ok
+returns-in-Show-clause-ok g c =
+    subst (λ o. IfOk c.reply_to.result (λ r. Carries g.D.Desk.acts g.D.Desk.asks g.D.FeedDesk.tells c.args.desk.now c.args.desk.now o c.args.message.now r)) (c.in-Show.ensures g.D.Desk.order g.D.Desk.stitch_order)
+    (if_still c.args.desk.now _ c.reply_to.result c.reply_to.ensures.ok)
