@@ -1,7 +1,6 @@
 //! The top call over the catalogue.
 
-ghost use Rattle.std.specs.Prelude.{◌≡◌, ◌≢◌, ℕ, List, [], ◌∷◌, IfOk, IfErr, Ok, Err, None, Some, map, string_bytes};
-ghost use Rattle.cat_command_line.specs.Reads.{Reads};
+ghost use Rattle.std.specs.Prelude.{◌≡◌, ◌≢◌, ℕ, List, [], ◌∷◌, Ok, None, map, string_bytes};
 ghost use Rattle.cat_command_line.specs.Words.{IsWithin, command_of};
 ghost use Rattle.cat_connection.specs.Status.{EndsAsUsage, IsOneOf};
 ghost use Rattle.cat_connection.specs.Items.{Item};
@@ -103,24 +102,6 @@ fn answer_messages<S: Source, O: Sink, K: Keeper>(
     }
 }
 
-// A command whose numbers are in their bounds.
-#[derive(Drop)]
-struct Within {
-    command: Command,
-    pub ghost within: { IsWithin command },
-}
-
-// Reads the words of a command line.
-fn read(alloc: Global, words: &[String]) -> Result<Within, WordFault>
-    ensures ok { IfOk result (λ c. command_of (map string_bytes words.now) ≡ Some c.command) }
-    ensures err { IfErr result (λ fault. Reads (command_of (map string_bytes words.now)) (Err fault)) }
-{
-    match command_of(alloc, words) {
-        Ok(command) => Ok(Within { command }),
-        Err(fault) => Err(fault),
-    }
-}
-
 // Runs a command.
 fn carry_out<
     S: Source,
@@ -132,16 +113,17 @@ fn carry_out<
 >(
     rt: &R,
     alloc: Global,
-    asked: Within,
+    command: Command,
     source: &mut S,
     sink: &mut O,
     clock: C,
     doors: &mut D,
     keeper: K,
 ) -> Ended<K>
-    ensures { EndsAs S.left S.faults O.written O.faults D.closed D.faults K.tables K.faults result.status source.old source.new sink.old sink.new doors.old doors.new keeper result.keeper asked.command }
+    requires within { IsWithin command }
+    ensures { EndsAs S.left S.faults O.written O.faults D.closed D.faults K.tables K.faults result.status source.old source.new sink.old sink.new doors.old doors.new keeper result.keeper command }
 {
-    match asked.command {
+    match command {
         Command::Session(options) => answer_lines(alloc, options, source, sink, keeper),
         Command::Wire(options) => answer_messages(alloc, options, source, sink, keeper),
         Command::Serve(serving) => run_server(rt, alloc, serving, sink, clock, doors, keeper),
@@ -193,8 +175,8 @@ fn run_words<
 ) -> Ended<K>
     ensures { Ends S.left S.faults O.written O.faults D.closed D.faults K.tables K.faults result.status source.old source.new sink.old sink.new doors.old doors.new keeper result.keeper (command_of (map string_bytes words.now)) }
 {
-    match read(alloc, words) {
-        Ok(asked) => carry_out(rt, alloc, asked, source, sink, clock, doors, keeper),
+    match command_of(alloc, words) {
+        Ok(command) => carry_out(rt, alloc, command, source, sink, clock, doors, keeper),
         Err(fault) => Ended {
             status: refuse(fault, sink),
             keeper: Some(keeper),

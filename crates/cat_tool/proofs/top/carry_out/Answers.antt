@@ -3,10 +3,10 @@ use Rattle.cat_command_line.specs.Words.{IsWithin}
 use Rattle.cat_tool.proofs.top.carry_out.Goals as goal
 
 pub run_server-requires-clause-crew : goal.run_server-requires-clause-crew
-run_server-requires-clause-crew g c κs within = subst IsWithin c.in-Serve.is c.args.asked.within
+run_server-requires-clause-crew g c κs is_well = subst IsWithin c.in-Serve.is c.requires.within
 
 pub tell_sample-status-requires : goal.tell_sample-status-requires
-tell_sample-status-requires g c = subst IsWithin c.in-Sample.is c.args.asked.within
+tell_sample-status-requires g c = subst IsWithin c.in-Sample.is c.requires.within
 
 pub returns-in-Session : goal.returns-in-Session
 returns-in-Session g c = rw c.in-Session.is (refl, c.answer_lines.ensures)
