@@ -1,5 +1,5 @@
 //! Tests of crates that don't stand on the catalogue: of what is no text, trees that no text has, and maps; and of what reads and writes: ends over
-//! readers and writers, doors, servers, turns, histories, journals, and databases. What comes of texts, and what sessions, connections, disks and keepers in memory come
+//! readers and writers, doors, servers, turns, journals, and databases. What comes of texts, and what sessions, connections, disks and keepers in memory come
 //! to, is told by `cat_cases`.
 //!
 //! Each module has the tests of one crate, by its public calls, with calls that fail. It stands on those crates alone, so that an edit of the
@@ -12,8 +12,6 @@ mod database;
 mod doors;
 #[cfg(test)]
 mod ends;
-#[cfg(test)]
-mod history;
 #[cfg(test)]
 mod io;
 #[cfg(test)]
